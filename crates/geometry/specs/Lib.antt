@@ -1,0 +1,4 @@
+pub mod Double
+pub mod Point
+pub mod Polyline
+pub mod Calls

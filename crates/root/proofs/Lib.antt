@@ -1,0 +1,7 @@
+mod Turn
+mod Roots
+mod Doubling
+mod Rounded
+mod Patterns
+mod Cases
+pub mod Law

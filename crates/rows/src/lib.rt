@@ -1,0 +1,1 @@
+// Lists and tables of records. Definitions only so far.
