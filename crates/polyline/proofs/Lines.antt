@@ -53,11 +53,11 @@ length-next xs i = rw (add-one i)
 -- ---- where a station lies
 
 module _ (xs : Polyline) (s : Float) (i : ℕ) (acc seg : Float) (a : acc ≡ lengthTo xs i) (e : seg ≡ segmentLength xs i) where
-  reach-here : (f : Float) → (le s (acc ⊕ seg) && lt f0 seg) ≡ true → f ≡ clamp ((s ⊖ acc) ⊘ seg) f0 f1 → reach xs s i ≡ some (location i f)
+  pub reach-here : (f : Float) → (le s (acc ⊕ seg) && lt f0 seg) ≡ true → f ≡ clamp ((s ⊖ acc) ⊘ seg) f0 f1 → reach xs s i ≡ some (location i f)
   unfolding reach
   reach-here f t c = rw (← a, ← e, t, c)
 
-  reach-past : (le s (acc ⊕ seg) && lt f0 seg) ≡ false → reach xs s i ≡ none
+  pub reach-past : (le s (acc ⊕ seg) && lt f0 seg) ≡ false → reach xs s i ≡ none
   unfolding reach
   reach-past t = rw (← a, ← e, t)
 
