@@ -8,6 +8,7 @@ use native.Mathlib.Omega.{arith}
 use borrow.Author.Tests.{eq-eqb, leb-false, lt-ltb}
 use Rattle.refusal.specs.Answer.{done, _>>_, refuseWhen}
 use Rattle.rows.specs.Lists.{every, keep, noEntries}
+use Rattle.rows.specs.Table.{rising}
 use Rattle.rows.proofs.Bools.{and-i, clash}
 use Rattle.geometry.specs.Point.{pointOnMap}
 use Rattle.map.specs.Ceilings.{withinCeilings}
@@ -22,7 +23,7 @@ use Rattle.changes.specs.Running.{State, sameTally, foldOk, foldFits, allBelow}
 use Rattle.changes.proofs.Entries.{Warned}
 use Rattle.changes.proofs.Refs.{listed-append, listed-keep, listed-sort, every-listed, sort-rising, keep-rising}
 use Rattle.edit.specs.Edit.{Draft, Outcome, finish}
-use Rattle.run.specs.Law.{alters}
+use Rattle.run.specs.Law.{alters, handed}
 use Rattle.run.proofs.Counts.{Named, named-lists, now-created, now-modified, then-deleted, gone-deleted}
 use Rattle.run.proofs.Told.{alters-has}
 
@@ -128,6 +129,7 @@ pub record StepLaw (m : Map) (d : Draft) : Type 0 where
   pub modified : withinCeilings (d .map) ≡ true → d .map .next < 2 ^ 64 → (a : EntityRef) → listed (d .changes .modified) a ≡ alters m (d .map) a
   pub born : (a : EntityRef) → listed (d .changes .created) a ≡ true → m .next ≤ a .num
   pub later : m .next ≤ d .map .next
+  pub rise : rising (λ n. n) (m .next) (d .map .next) (handed (normalize (d .changes))) ≡ true
   pub valid : every pointOnMap (d .stored) ≡ true → withinCeilings (d .map) ≡ true → d .map .next < 2 ^ 64 → isMap (d .map) ≡ true
   pub warned : d .map .next < 2 ^ 64 → Warned maxWarnings (d .changes .warnings)
 
@@ -252,7 +254,7 @@ step-one false true false f = refl
 step-one false false true f = clash (f refl) refl
 step-one false false false f = refl
 
-step-none : (z q : Bool) → ((q && not z) && not (z && not q)) ≡ (q && not z)
+pub step-none : (z q : Bool) → ((q && not z) && not (z && not q)) ≡ (q && not z)
 step-none true true = refl
 step-none true false = refl
 step-none false true = refl

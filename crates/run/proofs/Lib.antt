@@ -1,3 +1,5 @@
 mod Told
 mod Counts
 mod Fold
+mod Shape
+mod Answers
