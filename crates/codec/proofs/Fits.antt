@@ -1,8 +1,8 @@
 -- Which lists and options fit: as many as the format has room for, and each of them.
-use mathlib.Core.Path.{_≡_, refl}
+use mathlib.Core.Path.{_≡_, refl, sym, ap, _∙_}
 use mathlib.Core.Bool.{true, _&&_}
 use mathlib.Core.Option.{Option, none, some}
-use mathlib.Core.List.{List}
+use mathlib.Core.List.{List, _++_}
 use Prim.Native.Nat.{ℕ, _^_, _<_}
 use lib.Dec.{leb, ltb}
 use lib.ListN.{length}
@@ -10,7 +10,7 @@ use native.Mathlib.Omega.{arith}
 use borrow.Author.Tests.{leb-true, lt-ltb, ltb-true}
 use Rattle.rows.specs.Lists.{every}
 use Rattle.rows.proofs.Bools.{parts, and-i}
-use Rattle.codec.specs.Format.{Format, only, via, tagged, nothing, counted}
+use Rattle.codec.specs.Format.{Bytes, Format, same-value, same-rest, only, via, tagged, nothing, counted}
 use Rattle.codec.specs.Number.{number}
 use Rattle.codec.specs.Items.{list, option}
 
@@ -47,3 +47,9 @@ module _ {A : Type 0} (f : Format A) where
   pub none-fits : option f .fits none ≡ true
   unfolding option via tagged number nothing
   none-fits = refl
+
+-- a written form tells where it ends
+pub form-splits : {A : Type 0} (f : Format A) (a b : A) (s t : Bytes) → f .fits a ≡ true → f .fits b ≡ true → f .write a ++ s ≡ f .write b ++ t → (a ≡ b) × (s ≡ t)
+form-splits f a b s t p q e =
+    let r = sym (f .there a s p) ∙ ap (f .read) e ∙ f .there b t q in
+    (same-value r, same-rest r)

@@ -3,10 +3,10 @@ use mathlib.Core.Path.{_≡_, refl, sym, ap, subst}
 use mathlib.Core.Bool.{Bool, true, false, _&&_, _||_, cond}
 use mathlib.Core.Option.{Option, none, some}
 use mathlib.Core.List.{List, [], _∷_, _++_}
-use Prim.Native.Nat.{ℕ, _<_, _≤_, _^_}
+use Prim.Native.Nat.{ℕ, suc, _<_, _≤_, _^_}
 use lib.Dec.{eqb, ltb}
 use native.Mathlib.Omega.{arith}
-use borrow.Author.Tests.{ltb-true, lt-ltb}
+use borrow.Author.Tests.{ltb-true, lt-ltb, le-leb}
 use Rattle.refusal.specs.Answer.{Answer, refused, done, _>>=_, _>>_, refuseWhen, present}
 use Rattle.rows.specs.Lists.{every, firstOf, orElse, noEntries}
 use Rattle.rows.specs.Table.{holds, rising}
@@ -119,3 +119,17 @@ none-gone b o = rw (kept-not-gone o) (sym (and-no b))
 
 pub none-touched : {A : Type 0} (w : A → Bytes) (b : Bool) (o : Option A) → false ≡ (b && touchedAt w some o)
 none-touched w b o = rw (kept-untouched w o) (sym (and-no b))
+
+-- ---- the new numbers rise
+
+pub rise-one : (l h a : ℕ) → l ≤ a → a < h → rising (λ n. n) l h (a ∷ []) ≡ true
+unfolding rising
+rise-one l h a p q = and-i _ _ (and-i _ _ (le-leb l a p) (lt-ltb a h q)) refl
+
+pub rise-two : (l h a b : ℕ) → l ≤ a → a < b → b < h → rising (λ n. n) l h (a ∷ b ∷ []) ≡ true
+unfolding rising
+rise-two l h a b p q r = and-i _ _ (and-i _ _ (le-leb l a p) (lt-ltb a h (omega arith))) (rise-one (suc a) h b (omega arith) r)
+
+pub rise-three : (l h a b c : ℕ) → l ≤ a → a < b → b < c → c < h → rising (λ n. n) l h (a ∷ b ∷ c ∷ []) ≡ true
+unfolding rising
+rise-three l h a b c p q r s = and-i _ _ (and-i _ _ (le-leb l a p) (lt-ltb a h (omega arith))) (rise-two (suc a) h b c (omega arith) r s)

@@ -3,3 +3,7 @@ mod Counts
 mod Fold
 mod Shape
 mod Answers
+mod Rules
+mod Lifts
+mod PlaceWarned
+mod LineStep
