@@ -7,3 +7,4 @@ mod Rules
 mod Lifts
 mod PlaceWarned
 mod LineStep
+mod LinksStep
