@@ -43,8 +43,8 @@ has-form m a = go (a .kind) (a .num) (kindOf (a .kind))
 -- ---- what a map's record is called
 
 module _ (m : Map) (ok : isMap m ≡ true) where
-  pub below : {A : Type 0} (num : A → ℕ) (t : List A) (n : ℕ) → rising num 0 (m .next) t ≡ true → holds num n t ≡ true → n < m .next
-  below num t n r h = go (find num n t) refl (rw (holds-found num n t) at h)
+  pub held-below : {A : Type 0} (num : A → ℕ) (t : List A) (n : ℕ) → rising num 0 (m .next) t ≡ true → holds num n t ≡ true → n < m .next
+  held-below num t n r h = go (find num n t) refl (rw (holds-found num n t) at h)
     where
       go : (o : Option _) → find num n t ≡ o → isSome o ≡ true → n < m .next
       go none e k = clash k refl
@@ -56,12 +56,12 @@ module _ (m : Map) (ok : isMap m ≡ true) where
   has-below a h = go (a .kind) (a .num) (kindOf (a .kind)) h
     where
       go : (k n : ℕ) → Kind k → has m (entity k n) ≡ true → n < m .next
-      go k n lanes h = below (λ (x : Lane). x .num) (m .lanes) n (up₁ m ok) h
-      go k n boundaries h = below (λ (x : LineString). x .num) (m .boundaries) n (up₂ m ok) h
-      go k n stopLines h = below (λ (x : LineString). x .num) (m .stopLines) n (up₅ m ok) h
-      go k n signals h = below (λ (x : Signal). x .num) (m .signals) n (up₆ m ok) h
-      go k n crosswalks h = below (λ (x : Crosswalk). x .num) (m .crosswalks) n (up₇ m ok) h
-      go k n rules h = below (λ (x : Rule). x .num) (m .rules) n (up₈ m ok) h
+      go k n lanes h = held-below (λ (x : Lane). x .num) (m .lanes) n (up₁ m ok) h
+      go k n boundaries h = held-below (λ (x : LineString). x .num) (m .boundaries) n (up₂ m ok) h
+      go k n stopLines h = held-below (λ (x : LineString). x .num) (m .stopLines) n (up₅ m ok) h
+      go k n signals h = held-below (λ (x : Signal). x .num) (m .signals) n (up₆ m ok) h
+      go k n crosswalks h = held-below (λ (x : Crosswalk). x .num) (m .crosswalks) n (up₇ m ok) h
+      go k n rules h = held-below (λ (x : Rule). x .num) (m .rules) n (up₈ m ok) h
       go k n (others e₁ e₂ e₅ e₆ e₇ e₈) h = clash (rw (e₁, e₂, e₅, e₆, e₇, e₈) at h) refl
 
   pub next-fits : m .next < 2 ^ 64

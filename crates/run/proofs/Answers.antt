@@ -17,7 +17,7 @@ use Rattle.map.specs.Entity.{EntityRef, entity, listed, sameRef}
 use Rattle.map.specs.Lookup.{unknownIn}
 use Rattle.map.specs.MapFile.{isMap}
 use Rattle.map.specs.Record.{Lane, LineString, Signal, Rule, Map}
-use Rattle.map.proofs.Presence.{below}
+use Rattle.map.proofs.Presence.{held-below}
 use Rattle.map.proofs.ByKind.{up₁}
 use Rattle.edit.specs.Place.{refuseFound, checkLaneList}
 use Rattle.run.proofs.Shape.{Fresh}
@@ -75,7 +75,7 @@ module _ (m : Map) (ok : isMap m ≡ true) {A : Type 0} (num : A → ℕ) (t : L
     where
       go : (b : Bool) → holds num n t ≡ b → orElse (cond b none (some n)) (unknownIn num t ns) ≡ none → (unknownIn num t ns ≡ none → every (λ k. ltb k (m .next)) ns ≡ true)
           → (ltb n (m .next) && every (λ k. ltb k (m .next)) ns) ≡ true
-      go true h e k = and-i _ _ (lt-ltb n (m .next) (below m ok num t n r h)) (k e)
+      go true h e k = and-i _ _ (lt-ltb n (m .next) (held-below m ok num t n r h)) (k e)
       go false h e k = let z : _≡_ {A = ℕ} 0 1 = cc in absurd (omega arith)
 
 pub lanes-known : (m : Map) → isMap m ≡ true → (ns : List ℕ) (u : Unit {0}) → checkLaneList m ns ≡ done u → every (λ n. ltb n (m .next)) ns ≡ true

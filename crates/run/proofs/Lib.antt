@@ -8,3 +8,4 @@ mod Lifts
 mod PlaceWarned
 mod LineStep
 mod LinksStep
+mod LightStep
