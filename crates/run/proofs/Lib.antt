@@ -9,3 +9,4 @@ mod PlaceWarned
 mod LineStep
 mod LinksStep
 mod LightStep
+mod LightLine

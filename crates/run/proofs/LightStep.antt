@@ -95,7 +95,7 @@ light-not-gone (some s) lanes y i = rw (light-kept s lanes y i)
 -- ---- what lifting leaves of a drawing
 
 module _ (lanes : List ℕ) (d : Drawing) where
-  lifts-map : (l : Option ℕ) → liftAll lanes d l .map ≡ withRules (d .map) (changed (liftBy l lanes) (d .map .rules))
+  pub lifts-map : (l : Option ℕ) → liftAll lanes d l .map ≡ withRules (d .map) (changed (liftBy l lanes) (d .map .rules))
   unfolding liftAll
   lifts-map none = ap {B = Map} (withRules (d .map)) (sym (changed-some (d .map .rules)))
   lifts-map (some s) = ap {B = Map} (withRules (d .map)) (lift-all s lanes (d .map .rules))
@@ -690,18 +690,18 @@ height-is a e = go (a .height) e
     go none e = unfold orDefault isFinite ofBits fits in refl
     go (some h) e = unfold orDefault badHeight in let t : (isFinite h && lt f0 h) ≡ true = not-false (isFinite h && lt f0 h) e in search parts
 
-record Plans (a : NewTrafficSignal) (m : Map) (p : Planned) : Type 0 where
-  unit : Unit {0}
-  lanes : checkLaneList m (a .lanes) ≡ done unit
-  height : badHeight (a .height) ≡ false
-  own : Option ℕ
-  own-is : groupLine m (a .group) ≡ done own
-  plan-is : planFor m (a .lanes) own (a .choice) (a .points) ≡ done (p .plan)
-  anchor : Polyline
-  anchor-is : anchorFor m (a .lanes) (p .plan) ≡ done anchor
-  housing-is : housingFor m (getD (a .lanes) 0 0) anchor (a .housing) ≡ done (p .housing)
+pub record Plans (a : NewTrafficSignal) (m : Map) (p : Planned) : Type 0 where
+  pub unit : Unit {0}
+  pub lanes : checkLaneList m (a .lanes) ≡ done unit
+  pub height : badHeight (a .height) ≡ false
+  pub own : Option ℕ
+  pub own-is : groupLine m (a .group) ≡ done own
+  pub plan-is : planFor m (a .lanes) own (a .choice) (a .points) ≡ done (p .plan)
+  pub anchor : Polyline
+  pub anchor-is : anchorFor m (a .lanes) (p .plan) ≡ done anchor
+  pub housing-is : housingFor m (getD (a .lanes) 0 0) anchor (a .housing) ≡ done (p .housing)
 
-plans : (a : NewTrafficSignal) (m : Map) (p : Planned) → lightPlan a m ≡ done p → Plans a m p
+pub plans : (a : NewTrafficSignal) (m : Map) (p : Planned) → lightPlan a m ≡ done p → Plans a m p
 unfolding lightPlan
 plans a m p e =
     let p₁ = next (checkLaneList m (a .lanes)) _ p e in
