@@ -10,3 +10,4 @@ mod LineStep
 mod LinksStep
 mod LightStep
 mod LightLine
+mod Refusals
