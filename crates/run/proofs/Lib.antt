@@ -11,3 +11,4 @@ mod LinksStep
 mod LightStep
 mod LightLine
 mod Refusals
+pub mod Runs
