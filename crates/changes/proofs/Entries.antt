@@ -1,17 +1,17 @@
 -- When entries, lists and warnings are those of a change set file.
 use mathlib.Core.Path.{_≡_, refl}
 use mathlib.Core.Bool.{true, _&&_}
-use mathlib.Core.Option.{Option, none, some}
+use mathlib.Core.Option.{none, some}
 use mathlib.Core.List.{List, [], _∷_, _++_}
 use Prim.Native.Nat.{ℕ, zero, suc, _+_, _^_, _<_, _≤_}
 use lib.Dec.{ltb, leb}
 use lib.ListN.{length, length-append}
 use native.Mathlib.Omega.{arith}
-use borrow.Author.Tests.{ltb-true, lt-ltb, le-leb}
+use borrow.Author.Tests.{ltb-true, le-leb}
 use Rattle.rows.specs.Lists.{every}
 use Rattle.rows.proofs.Bools.{parts, and-i, clash}
 use Rattle.rows.proofs.Tables.{every-append}
-use Rattle.codec.specs.Format.{_⊗_, only, via, tagged, nothing, both}
+use Rattle.codec.specs.Format.{_⊗_, only, via, tagged, nothing}
 use Rattle.codec.specs.Number.{number}
 use Rattle.codec.specs.Items.{below, list}
 use Rattle.codec.proofs.Fits.{number-fits, list-fits}
@@ -21,7 +21,7 @@ use Rattle.map.specs.Entity.{EntityRef, entity, has}
 use Rattle.map.proofs.ByKind.{Kind, lanes, boundaries, stopLines, signals, crosswalks, rules, others, kindOf}
 use Rattle.map.proofs.Presence.{has-below, next-fits}
 use Rattle.changes.specs.ChangeSet.{Warning, warning, ChangeSet}
-use Rattle.changes.specs.ChangeFile.{maxEntries, maxWarnings, risingRefs, listsApart, kinds, entry, about, warningForm, entries, warnings, changeFile, isSet, listsOk}
+use Rattle.changes.specs.ChangeFile.{maxEntries, maxWarnings, risingRefs, kinds, entry, about, warningForm, entries, warnings, changeFile, isSet, listsOk}
 
 -- ---- entries
 

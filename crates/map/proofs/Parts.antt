@@ -1,6 +1,6 @@
 -- A map, part by part: what a map file asks of each table, and when a record fits its format.
 use mathlib.Core.Path.{_≡_, refl}
-use mathlib.Core.Bool.{Bool, true, false, not, _&&_}
+use mathlib.Core.Bool.{Bool, true, _&&_}
 use mathlib.Core.Option.{Option, none, some}
 use mathlib.Core.List.{List, [], _∷_}
 use Prim.Native.Nat.{ℕ, _^_, _<_, _≤_}
@@ -21,8 +21,8 @@ use Rattle.codec.specs.Format.{Format, _⊗_, only, via, tagged, both}
 use Rattle.codec.specs.Number.{number}
 use Rattle.codec.specs.Double.{double}
 use Rattle.codec.specs.Items.{list, option, below, from}
-use Rattle.codec.proofs.Fits.{number-below, number-fits, list-each, list-few, list-fits, option-fits, fits-option, none-fits}
-use Rattle.map.specs.Record.{Lane, LineString, Bulb, Signal, Crosswalk, RuleBody, light, sign, marking, rightOfWay, crossing, other, Rule, Map}
+use Rattle.codec.proofs.Fits.{number-fits, list-each, list-few, list-fits, option-fits, fits-option, none-fits}
+use Rattle.map.specs.Record.{Lane, LineString, Signal, Crosswalk, RuleBody, light, sign, marking, rightOfWay, crossing, other, Rule, Map}
 use Rattle.map.specs.Ceilings.{maxLanes, maxBoundaries, maxStopLines, maxSignals, maxCrosswalks, maxRules, maxLinePoints, maxPoints, maxBulbs, maxRuleEntries, ifThere, lineWithin, lineStringWithin, signalWithin, bodyWithin, ruleWithin, points}
 use Rattle.map.specs.MapFile.{coordinate, height, point, polyline, lane, lineString, bulb, signal, crosswalk, numbers, body, rule, table, tables, mapFile, isMap}
 

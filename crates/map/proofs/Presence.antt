@@ -1,12 +1,12 @@
 -- Records that a map has: present where they have a written form, and numbered below the next number.
 use mathlib.Core.Path.{_≡_, refl}
-use mathlib.Core.Bool.{true, _&&_}
+use mathlib.Core.Bool.{true}
 use mathlib.Core.Option.{Option, none, some}
 use mathlib.Core.List.{List}
 use Prim.Native.Nat.{ℕ, _^_, _<_}
 use lib.Dec.{ltb}
 use native.Mathlib.Omega.{arith}
-use borrow.Author.Tests.{ltb-true, lt-ltb}
+use borrow.Author.Tests.{ltb-true}
 use Rattle.rows.specs.Table.{find, holds, rising}
 use Rattle.rows.proofs.Bools.{clash}
 use Rattle.rows.proofs.Tables.{isSome, holds-found, found-is, rising-below}

@@ -1,13 +1,13 @@
 -- Tables of records by number: facts for all kinds together.
-use mathlib.Core.Path.{_≡_, refl, sym, ap, subst}
-use mathlib.Core.Bool.{Bool, true, false, not, _&&_, _||_, cond}
+use mathlib.Core.Path.{_≡_, refl, ap, subst}
+use mathlib.Core.Bool.{Bool, true, false, _&&_, _||_, cond}
 use mathlib.Core.Option.{Option, none, some}
-use mathlib.Core.List.{List, [], _∷_, _++_, append-nil}
+use mathlib.Core.List.{List, [], _∷_, _++_}
 use Prim.Native.Nat.{ℕ, suc, _<_, _≤_}
 use lib.Dec.{eqb, ltb, leb}
 use native.Mathlib.Omega.{arith}
-use borrow.Author.Tests.{eqb-true, eq-eqb, ne-eqb, leb-true, le-leb, ltb-true, lt-ltb}
-use Rattle.rows.specs.Lists.{every, sameList, orElse}
+use borrow.Author.Tests.{eqb-true, leb-true, le-leb, ltb-true, lt-ltb}
+use Rattle.rows.specs.Lists.{every, orElse}
 use Rattle.rows.specs.Table.{find, holds, rising}
 use Rattle.rows.proofs.Bools.{parts, and-i}
 

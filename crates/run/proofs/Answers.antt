@@ -1,22 +1,21 @@
 -- What an answer that is no refusal says of the steps that led to it.
 use mathlib.Core.Path.{_≡_, refl, sym, ap, subst}
-use mathlib.Core.Bool.{Bool, true, false, _&&_, _||_, cond}
+use mathlib.Core.Bool.{Bool, true, false, _&&_, cond}
 use mathlib.Core.Option.{Option, none, some}
-use mathlib.Core.List.{List, [], _∷_, _++_}
+use mathlib.Core.List.{List, [], _∷_}
 use Prim.Native.Nat.{ℕ, suc, _<_, _≤_, _^_}
-use lib.Dec.{eqb, ltb}
+use lib.Dec.{ltb}
 use native.Mathlib.Omega.{arith}
 use borrow.Author.Tests.{ltb-true, lt-ltb, le-leb}
 use Rattle.refusal.specs.Answer.{Answer, refused, done, _>>=_, _>>_, refuseWhen, present}
 use Rattle.rows.specs.Lists.{every, firstOf, orElse, noEntries}
 use Rattle.rows.specs.Table.{holds, rising}
-use Rattle.rows.proofs.Bools.{parts, and-i, and-no, or-no}
+use Rattle.rows.proofs.Bools.{parts, and-i, and-no}
 use Rattle.codec.specs.Format.{Bytes}
 use Rattle.codec.specs.Number.{number}
-use Rattle.map.specs.Entity.{EntityRef, entity, listed, sameRef}
 use Rattle.map.specs.Lookup.{unknownIn}
 use Rattle.map.specs.MapFile.{isMap}
-use Rattle.map.specs.Record.{Lane, LineString, Signal, Rule, Map}
+use Rattle.map.specs.Record.{Lane, Map}
 use Rattle.map.proofs.Presence.{held-below}
 use Rattle.map.proofs.ByKind.{up₁}
 use Rattle.edit.specs.Place.{refuseFound, checkLaneList}

@@ -1,5 +1,5 @@
 -- The line of a light in the law's own words is the one that the edit takes, and no stop rule of its lanes is left on it.
-use mathlib.Core.Path.{_≡_, refl, sym, subst, _∙_}
+use mathlib.Core.Path.{_≡_, refl, subst, _∙_}
 use mathlib.Core.Bool.{Bool, true, false, not, _&&_, _||_, cond}
 use mathlib.Core.Option.{Option, none, some}
 use mathlib.Core.List.{List, [], _∷_, _++_}
@@ -27,7 +27,7 @@ use Rattle.edit.specs.declared.StopLineChoice.the-variants.{Existing, New, NoLi
 use Rattle.run.specs.Law.{ownLine, orNext, lineOnLane, lineOfRule, groupsLine, firstLanesLine, foundOr, chosenLine, lightsLine, meets, haltLine, isLine, noStop}
 use Rattle.run.proofs.Answers.{never, done-is, went, past, there}
 use Rattle.run.proofs.Lifts.{liftBy, lift-clears}
-use Rattle.run.proofs.LightStep.{lifts-map, plans, Plans}
+use Rattle.run.proofs.LightStep.{lifts-map, plans}
 
 -- ---- which line it is
 own-is : (w : RuleBody) → ownLine w ≡ stopsAt w

@@ -8,7 +8,7 @@ use lib.Dec.{eqb, ltb}
 use lib.ListN.{length, getD, length-append}
 use lib.Ieee.{Float, lt, ofBits, fits}
 use native.Mathlib.Omega.{arith}
-use borrow.Author.Tests.{ltb-true, lt-ltb, eqb-true, leb-true, not-false}
+use borrow.Author.Tests.{ltb-true, eqb-true, leb-true, not-false}
 use Rattle.refusal.specs.Answer.{done, present}
 use Rattle.rows.specs.Lists.{listTo, orDefault, every, keep, joined, sameList, member, orElse, noEntries}
 use Rattle.rows.specs.Table.{find, rising, replaced}
@@ -22,7 +22,7 @@ use Rattle.codec.specs.Format.{Bytes, via, _⊗_, tagged, counted, only}
 use Rattle.codec.specs.Items.{below, list, option}
 use Rattle.codec.specs.Number.{number}
 use Rattle.codec.proofs.Fits.{form-splits, number-fits}
-use Rattle.map.specs.Ceilings.{withinCeilings, ruleWithin, bodyWithin, ifThere, maxRules}
+use Rattle.map.specs.Ceilings.{ruleWithin, bodyWithin, ifThere, maxRules}
 use Rattle.map.specs.Entity.{EntityRef, entity, listed, formIn}
 use Rattle.map.specs.Lookup.{lineOf, ruleOf}
 use Rattle.map.specs.MapFile.{rule, body, isMap, numbers, bulb}

@@ -15,13 +15,12 @@ use Rattle.rows.proofs.Tables.{one, changed-some}
 use Rattle.codec.specs.Format.{only}
 use Rattle.codec.specs.Number.{number}
 use Rattle.codec.specs.Items.{from}
-use Rattle.codec.proofs.Fits.{number-fits}
 use Rattle.map.specs.Ceilings.{ifThere}
 use Rattle.map.specs.Entity.{entity, listed}
 use Rattle.map.specs.MapFile.{isMap}
 use Rattle.map.specs.Record.{LineString, Signal, Rule, Map, RuleBody, sign, marking}
 use Rattle.map.specs.Rows.{fresh, withLine}
-use Rattle.map.proofs.Parts.{lineStringOk, lineOk, signalOk, ruleOk, bodyOk, line-on-map}
+use Rattle.map.proofs.Parts.{lineStringOk, signalOk, ruleOk, bodyOk, line-on-map}
 use Rattle.changes.specs.ChangeFile.{maxWarnings}
 use Rattle.changes.proofs.Entries.{Warned, more-warned, both-warned, one-warned}
 use Rattle.edit.specs.Edit.{Draft}

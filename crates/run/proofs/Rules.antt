@@ -2,7 +2,7 @@
 use mathlib.Core.Path.{_≡_, refl, sym, ap, subst, _∙_}
 use mathlib.Core.Bool.{Bool, true, false, not, _&&_, cond}
 use mathlib.Core.Option.{Option, none, some}
-use mathlib.Core.List.{List, [], _∷_, _++_, append-nil, append-assoc, append-cancel-left}
+use mathlib.Core.List.{List, [], _∷_, _++_, append-cancel-left}
 use Prim.Native.Nat.{ℕ, _<_, _^_}
 use lib.Dec.{eqb}
 use lib.ListN.{length}
@@ -13,12 +13,12 @@ use Rattle.rows.specs.Table.{find, replaced}
 use Rattle.rows.proofs.Bools.{parts, and-i, clash}
 use Rattle.rows.proofs.Tables.{changed, found-is}
 use Rattle.codec.specs.Format.{_⊗_}
-use Rattle.codec.specs.Format.{Bytes, via}
+use Rattle.codec.specs.Format.{via}
 use Rattle.codec.specs.Number.{number}
 use Rattle.map.specs.Ceilings.{ruleWithin, bodyWithin, atMost}
 use Rattle.map.specs.Entity.{formIn}
 use Rattle.map.specs.MapFile.{rule, body, numbers}
-use Rattle.map.specs.Record.{Rule, Map, RuleBody}
+use Rattle.map.specs.Record.{Rule, RuleBody}
 use Rattle.map.specs.Rows.{ruleWith}
 use Rattle.map.proofs.Parts.{ruleOk, bodyOk}
 use Rattle.run.specs.Law.{differ}

@@ -5,7 +5,6 @@ use mathlib.Core.Option.{Option, none, some}
 use mathlib.Core.List.{List, [], _∷_, _++_, append-nil}
 use Prim.Native.Nat.{ℕ, suc, _<_, _≤_}
 use lib.Dec.{eqb, leb, ltb}
-use lib.ListN.{length}
 use native.Mathlib.Omega.{arith}
 use borrow.Author.Tests.{leb-true, lt-ltb, ltb-true, ne-eqb}
 use Rattle.refusal.specs.Answer.{Answer, refused, done}

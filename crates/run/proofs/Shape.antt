@@ -6,7 +6,7 @@ use mathlib.Core.List.{List, [], _∷_, _++_, append-nil, map}
 use Prim.Native.Nat.{ℕ, _^_, _<_, _≤_}
 use lib.Dec.{eqb}
 use native.Mathlib.Omega.{arith}
-use borrow.Author.Tests.{eqb-true, lt-ltb}
+use borrow.Author.Tests.{eqb-true}
 use Rattle.rows.specs.Lists.{every}
 use Rattle.rows.specs.Table.{find, rising}
 use Rattle.rows.proofs.Bools.{parts, and-i, clash, or-no, and-no}
@@ -18,7 +18,7 @@ use Rattle.map.specs.Ceilings.{withinCeilings, lineStringWithin, signalWithin, 
 use Rattle.map.specs.Entity.{EntityRef, entity, listed, formIn, formOf, sameRef, has, compareRefs}
 use Rattle.map.specs.MapFile.{lane, lineString, signal, crosswalk, rule, isMap}
 use Rattle.map.specs.Record.{Lane, LineString, Signal, Crosswalk, Rule, Map}
-use Rattle.map.proofs.ByKind.{Kind, lanes, boundaries, stopLines, signals, crosswalks, rules, others, kindOf, up₁, up₂, up₅, up₆, up₇, up₈}
+use Rattle.map.proofs.ByKind.{Kind, lanes, boundaries, stopLines, signals, crosswalks, rules, others, kindOf, up₅, up₆, up₈}
 use Rattle.map.proofs.Parts.{lineStringOk, signalOk, ruleOk, map-parts, parts-map, table-wider, table-of, lineString-fits, signal-fits, rule-fits, stopLines-ok, signals-ok, rules-ok}
 use Rattle.map.proofs.Presence.{has-form}
 use Rattle.changes.specs.ChangeFile.{maxWarnings, risingRefs, riseAfter, isBefore}

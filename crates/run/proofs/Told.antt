@@ -1,15 +1,14 @@
 -- What becomes of a table of which f changes the records, and to which o is added.
 use mathlib.Core.Path.{_≡_, refl, sym, ap, subst}
-use mathlib.Core.Bool.{Bool, true, false, not, _&&_, _||_, cond}
+use mathlib.Core.Bool.{Bool, true, false, not, _&&_}
 use mathlib.Core.Option.{Option, none, some}
 use mathlib.Core.List.{List, [], _∷_, _++_, append-nil}
-use Prim.Native.Nat.{ℕ, suc, _<_, _≤_}
-use lib.Dec.{eqb, ltb, leb}
+use Prim.Native.Nat.{ℕ, _<_, _≤_}
+use lib.Dec.{eqb, ltb}
 use native.Mathlib.Omega.{arith}
-use borrow.Author.Tests.{eqb-true, eq-eqb, ne-eqb, leb-true, le-leb, ltb-true, lt-ltb}
-use Rattle.rows.specs.Lists.{every, sameList, orElse}
-use Rattle.rows.specs.Table.{find, holds, rising}
-use Rattle.rows.proofs.Bools.{parts, and-i}
+use borrow.Author.Tests.{ne-eqb, ltb-true}
+use Rattle.rows.specs.Lists.{orElse}
+use Rattle.rows.specs.Table.{find, rising}
 use Rattle.rows.proofs.SameLists.{list-same}
 use Rattle.rows.proofs.Tables.{isSome, fromSome, found-new, one, changed, changed-some, found-is, find-changed, find-append, rising-below, or-none}
 use Rattle.codec.specs.Format.{Bytes}
