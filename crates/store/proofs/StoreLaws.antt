@@ -14,7 +14,7 @@ use Rattle.rows.specs.Rows.{cut, pasted, moved, without}
 use Rattle.rows.proofs.RowLaws.{same-or, getD-before, getD-before-moved, cut-set-off, pasted-all, length-cut}
 use Rattle.rows.proofs.Indexed.{length-listTo, listTo-same, listTo-push, listTo-set, listTo-delete}
 use Rattle.rows.proofs.Plan.{Plan, from-first, within, row-inside, part-here, part-other, part-others, part-long, gone-fits, gone-before, gone-past, gone-others, gone-long}
-use Rattle.store.specs.Layout.{limitOf, widthOf, baseOf, coordWidthOf, coordBaseOf, allWords, allCoords, placeOf, coordPlaceOf, nextOf, countOf, rowOf, coordsOf, recordsOf, SizedWords, Sized, setNext, pushRow, putPart, putCoords, dropRow, dropCoords}
+use Rattle.store.specs.Layout.{limitOf, widthOf, baseOf, coordWidthOf, coordBaseOf, allWords, allCoords, placeOf, coordPlaceOf, nextOf, countOf, rowOf, coordsOf, recordsOf, SizedWords, Sized, Same, Kept, setNext, pushRow, putPart, putCoords, dropRow, dropCoords}
 
 -- ---- the layout: both lists have their tables one after the other
 
@@ -101,7 +101,6 @@ coords-end k i hk h = omega (arith, coord-stops, within inCoords k hk, row-insid
 -- ---- what an edit of kind k leaves
 
 pub record WordsKept (ws : List ℕ) (k : ℕ) (ws′ : List ℕ) : Type 0 where
-  pub next : nextOf ws′ ≡ nextOf ws
   pub counts : (m : ℕ) → m < 6 → (m ≡ k → ⊥) → countOf ws′ m ≡ countOf ws m
   pub rows : (m i : ℕ) → m < 6 → (m ≡ k → ⊥) → i < limitOf m → rowOf ws′ m i ≡ rowOf ws m i
   pub sized : SizedWords ws′
@@ -110,22 +109,9 @@ pub record CoordsKept (cs : List Float) (k : ℕ) (cs′ : List Float) : Type 0 
   pub rows : (m i : ℕ) → m < 6 → (m ≡ k → ⊥) → i < limitOf m → coordsOf cs′ m i ≡ coordsOf cs m i
   pub sized : length cs′ ≡ allCoords
 
--- a table of which nothing has changed
-pub record Same (ws : List ℕ) (cs : List Float) (m : ℕ) (ws′ : List ℕ) (cs′ : List Float) : Type 0 where
-  pub count : countOf ws′ m ≡ countOf ws m
-  pub rows : (i : ℕ) → i < countOf ws m → rowOf ws′ m i ≡ rowOf ws m i
-  pub coords : (i : ℕ) → i < countOf ws m → coordsOf cs′ m i ≡ coordsOf cs m i
-
--- the next number, every other table and the sizes are kept
-pub record Kept (ws : List ℕ) (cs : List Float) (k : ℕ) (ws′ : List ℕ) (cs′ : List Float) : Type 0 where
-  pub next : nextOf ws′ ≡ nextOf ws
-  pub others : (m : ℕ) → m < 6 → (m ≡ k → ⊥) → Same ws cs m ws′ cs′
-  pub sized : Sized ws′ cs′
-
 pub kept : (ws : List ℕ) (cs : List Float) (k : ℕ) (ws′ : List ℕ) (cs′ : List Float) → SizedWords ws → WordsKept ws k ws′ → CoordsKept cs k cs′ → Kept ws cs k ws′ cs′
 kept ws cs k ws′ cs′ ok a b =
     record {
-      next = a .next;
       others = λ m hm ne.
           record {
             count = a .counts m hm ne;
@@ -173,6 +159,16 @@ module _ (ws : List ℕ) (ok : SizedWords ws) (v : ℕ) where
   unfolding setNext
   next-sized = record { room = length-set ws 0 v ∙ ok .room; counts = λ m h. rw (next-count m) (ok .counts m h) }
 
+-- an edit of table k, and then the next number
+pub then-next : (ws : List ℕ) (k : ℕ) (l : List ℕ) → WordsKept ws k l → (v : ℕ) → WordsKept ws k (setNext l v)
+unfolding setNext
+then-next ws k l w v =
+    record {
+      counts = λ m hm ne. next-count l (w .sized) v m ∙ w .counts m hm ne;
+      rows = λ m i hm ne h. head-row l 0 v m i (omega arith) hm ∙ w .rows m i hm ne h;
+      sized = next-sized l (w .sized) v;
+    }
+
 module _ (l : List ℕ) (k v : ℕ) where
   count-here : 1 + k < length l → countOf (set l (1 + k) v) k ≡ v
   unfolding countOf
@@ -191,7 +187,6 @@ counted : (ws : List ℕ) → SizedWords ws → (k : ℕ) → k < 6 → (l : Lis
 counted ws ok k hk l w v hv =
     let other : (m : ℕ) → m < 6 → (m ≡ k → ⊥) → countOf (set l (1 + k) v) m ≡ countOf ws m = λ m hm ne. count-other l k v m ne ∙ w .counts m hm ne in
     record {
-      next = count-next l k v ∙ w .next;
       counts = other;
       rows = λ m i hm ne h. head-row l (1 + k) v m i (omega arith) hm ∙ w .rows m i hm ne h;
       sized = record {
@@ -243,7 +238,6 @@ module _ (ws : List ℕ) (ok : SizedWords ws) (k : ℕ) (hk : k < 6) (i : ℕ) (
   word-kept : WordsKept ws k (pasted ws (placeOf k i + o) s n)
   word-kept =
       record {
-        next = word-next;
         counts = λ m hm ne. word-count m hm;
         rows = word-others;
         sized = record { room = word-long ∙ ok .room; counts = λ m hm. rw (word-count m hm) (ok .counts m hm) };
@@ -269,18 +263,21 @@ module _ (cs : List Float) (ok : length cs ≡ allCoords) (k : ℕ) (hk : k < 6)
   pub coord-kept : CoordsKept cs k (putCoords cs k i o s)
   coord-kept = record { rows = coord-others; sized = coord-long }
 
--- coordinates past the last row belong to no record: every table stays
-pub coords-free : (ws : List ℕ) (cs : List Float) → Sized ws cs → (k : ℕ) → k < 6 → (o : ℕ) (s : List Float) → countOf ws k < limitOf k → o + length s ≤ coordWidthOf k
-    → (m : ℕ) → m < 6 → Same ws cs m ws (putCoords cs k (countOf ws k) o s)
-coords-free ws cs ok k hk o s free ho m hm =
+-- only the coordinates of row n of kind k are written: n is the count, so they belong to no record yet
+pub record Filled (cs : List Float) (k n : ℕ) (cs′ : List Float) : Type 0 where
+  pub kept : CoordsKept cs k cs′
+  pub others : (i : ℕ) → i < n → coordsOf cs′ k i ≡ coordsOf cs k i
+
+pub filled-none : (cs : List Float) (k n : ℕ) → length cs ≡ allCoords → Filled cs k n cs
+filled-none cs k n h = record { kept = coords-still cs k h; others = λ i g. refl }
+
+pub filled-more : (cs : List Float) (k n : ℕ) (cs₁ : List Float) → Filled cs k n cs₁ → k < 6 → n < limitOf k → (o : ℕ) (s : List Float) → o + length s ≤ coordWidthOf k
+    → Filled cs k n (putCoords cs₁ k n o s)
+filled-more cs k n cs₁ f hk hn o s ho =
+    let ok = f .kept .sized in
     record {
-      count = refl;
-      rows = λ i h. refl;
-      coords = λ i h. ⊎-elim
-          (λ (e : m ≡ k). let g : i < countOf ws k = rw (← e) h in rw e (coord-other cs (ok .coords) k hk (countOf ws k) free o s ho i (omega arith) (omega arith)))
-          (λ (d : (m < k) ⊎ (k < m)). coord-others cs (ok .coords) k hk (countOf ws k) free o s ho m i hm
-          (⊎-elim (λ (h : m < k). omega arith) (λ (h : k < m). omega arith) d) (omega (arith, ok .words .counts m hm)))
-          (same-or m k);
+      kept = record { rows = λ m i hm ne h. coord-others cs₁ ok k hk n hn o s ho m i hm ne h ∙ f .kept .rows m i hm ne h; sized = coord-long cs₁ ok k hk n hn o s ho };
+      others = λ i h. coord-other cs₁ ok k hk n hn o s ho i (omega arith) (omega arith) ∙ f .others i h;
     }
 
 -- ---- a row more
@@ -313,18 +310,38 @@ module _ (ws : List ℕ) (ok : SizedWords ws) (k : ℕ) (hk : k < 6) (row : List
   unfolding pushRow
   push-count = count-here (pasted ws (placeOf k (countOf ws k)) row (widthOf k)) k (countOf ws k + 1) (omega (arith, filled-kept .sized .room))
 
+  pub push-next : nextOf (pushRow ws k row) ≡ nextOf ws
+  unfolding pushRow
+  push-next = count-next _ k (countOf ws k + 1) ∙ subst (λ (p : ℕ). nextOf (pasted ws p row (widthOf k)) ≡ nextOf ws) (add-zero (placeOf k (countOf ws k)))
+      (word-next ws ok k hk (countOf ws k) free 0 row (widthOf k) (omega arith) (omega (arith, long)))
+
   push-row : (i : ℕ) → rowOf (pushRow ws k row) k i ≡ rowOf (pasted ws (placeOf k (countOf ws k)) row (widthOf k)) k i
   unfolding pushRow
   push-row i = head-row (pasted ws (placeOf k (countOf ws k)) row (widthOf k)) (1 + k) (countOf ws k + 1) k i (omega arith) hk
 
-  pub push-records : {A : Type 0} (f : List ℕ → List Float → A) (cs : List Float)
-      → recordsOf f (pushRow ws k row) cs k ≡ recordsOf f ws cs k ++ (f row (coordsOf cs k (countOf ws k)) ∷ [])
+  push-records : {A : Type 0} (f : List ℕ → List Float → A) (cs cs′ : List Float) → Filled cs k (countOf ws k) cs′
+      → recordsOf f (pushRow ws k row) cs′ k ≡ recordsOf f ws cs k ++ (f row (coordsOf cs′ k (countOf ws k)) ∷ [])
   unfolding recordsOf
-  push-records f cs =
+  push-records f cs cs′ c =
       rw push-count
-      (listTo-push (λ i. f (rowOf ws k i) (coordsOf cs k i)) (λ i. f (rowOf (pushRow ws k row) k i) (coordsOf cs k i)) (countOf ws k)
-      (λ i h. rw (push-row i, filled-other i (omega arith) (omega arith)))
+      (listTo-push (λ i. f (rowOf ws k i) (coordsOf cs k i)) (λ i. f (rowOf (pushRow ws k row) k i) (coordsOf cs′ k i)) (countOf ws k)
+      (λ i h. rw (push-row i, filled-other i (omega arith) (omega arith), c .others i h))
       ∙ rw (push-row (countOf ws k), filled-here))
+
+  -- a record more: its coordinates are written, then its row, then the next number
+  module _ (cs cs′ : List Float) (c : Filled cs k (countOf ws k) cs′) (v : ℕ) where
+    pub pushed-kept : Kept ws cs k (setNext (pushRow ws k row) v) cs′
+    pushed-kept = kept ws cs k _ _ ok (then-next ws k (pushRow ws k row) push-kept v) (c .kept)
+
+    pub pushed-records : {A : Type 0} (f : List ℕ → List Float → A)
+        → recordsOf f (setNext (pushRow ws k row) v) cs′ k ≡ recordsOf f ws cs k ++ (f row (coordsOf cs′ k (countOf ws k)) ∷ [])
+    pushed-records f = records-same f _ _ k _ _ (next-same (pushRow ws k row) (push-kept .sized) v cs′ k hk) ∙ push-records f cs cs′ c
+
+    pub pushed-next : nextOf (setNext (pushRow ws k row) v) ≡ v
+    pushed-next = next-set (pushRow ws k row) (push-kept .sized) v
+
+    pub pushed-count : countOf (setNext (pushRow ws k row) v) k ≡ countOf ws k + 1
+    pushed-count = next-count (pushRow ws k row) (push-kept .sized) v k ∙ push-count
 
 -- ---- a part of a row written over
 
@@ -335,6 +352,10 @@ module _ (ws : List ℕ) (ok : SizedWords ws) (k : ℕ) (hk : k < 6) (i : ℕ) (
   pub put-kept : WordsKept ws k (putPart ws k i o s)
   unfolding putPart
   put-kept = word-kept ws ok k hk i low o s (length s) ho (le-refl _)
+
+  pub put-next : nextOf (putPart ws k i o s) ≡ nextOf ws
+  unfolding putPart
+  put-next = word-next ws ok k hk i low o s (length s) ho (le-refl _)
 
   pub put-count : (m : ℕ) → m < 6 → countOf (putPart ws k i o s) m ≡ countOf ws m
   unfolding putPart
@@ -398,7 +419,6 @@ module _ (ws : List ℕ) (ok : SizedWords ws) (k : ℕ) (hk : k < 6) (j : ℕ) (
   closed-kept : WordsKept ws k closed
   closed-kept =
       record {
-        next = closed-next;
         counts = λ m hm ne. closed-count m hm;
         rows = closed-others;
         sized = record { room = closed-long ∙ ok .room; counts = λ m hm. rw (closed-count m hm) (ok .counts m hm) };
@@ -407,6 +427,10 @@ module _ (ws : List ℕ) (ok : SizedWords ws) (k : ℕ) (hk : k < 6) (j : ℕ) (
   pub drop-kept : WordsKept ws k (dropRow ws k j)
   unfolding dropRow closed
   drop-kept = counted ws ok k hk closed closed-kept (countOf ws k - 1) (omega (arith, ok .counts k hk))
+
+  pub drop-next : nextOf (dropRow ws k j) ≡ nextOf ws
+  unfolding dropRow closed
+  drop-next = count-next closed k (countOf ws k - 1) ∙ closed-next
 
   pub drop-count : countOf (dropRow ws k j) k ≡ countOf ws k - 1
   unfolding dropRow closed
@@ -439,6 +463,11 @@ module _ (cs : List Float) (ok : length cs ≡ allCoords) (k : ℕ) (hk : k < 6)
 
   pub drop-coords-kept : CoordsKept cs k (dropCoords cs k n j)
   drop-coords-kept = record { rows = coords-others; sized = coords-long ∙ ok }
+
+-- a part of a record written over, its coordinates as they are
+pub put-all-kept : (ws : List ℕ) (cs : List Float) → Sized ws cs → (k : ℕ) → k < 6 → (i : ℕ) → i < countOf ws k → (o : ℕ) (s : List ℕ) → o + length s ≤ widthOf k
+    → Kept ws cs k (putPart ws k i o s) cs
+put-all-kept ws cs ok k hk i hi o s ho = kept ws cs k _ _ (ok .words) (put-kept ws (ok .words) k hk i hi o s ho) (coords-still cs k (ok .coords))
 
 -- a record goes with its row and its coordinates
 module _ (ws : List ℕ) (cs : List Float) (ok : Sized ws cs) (k : ℕ) (hk : k < 6) (j : ℕ) (hj : j < countOf ws k) where

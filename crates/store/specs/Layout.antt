@@ -69,6 +69,19 @@ pub record Sized (ws : List ℕ) (cs : List Float) : Type 0 where
   pub words : SizedWords ws
   pub coords : length cs ≡ allCoords
 
+-- ---- what an edit of one kind keeps
+
+-- table m, of which nothing has changed
+pub record Same (ws : List ℕ) (cs : List Float) (m : ℕ) (ws′ : List ℕ) (cs′ : List Float) : Type 0 where
+  pub count : countOf ws′ m ≡ countOf ws m
+  pub rows : (i : ℕ) → i < countOf ws m → rowOf ws′ m i ≡ rowOf ws m i
+  pub coords : (i : ℕ) → i < countOf ws m → coordsOf cs′ m i ≡ coordsOf cs m i
+
+-- every table but k's, and the sizes
+pub record Kept (ws : List ℕ) (cs : List Float) (k : ℕ) (ws′ : List ℕ) (cs′ : List Float) : Type 0 where
+  pub others : (m : ℕ) → m < 6 → (m ≡ k → ⊥) → Same ws cs m ws′ cs′
+  pub sized : Sized ws′ cs′
+
 -- ---- what the edits leave
 
 unfoldable pub setNext : List ℕ → ℕ → List ℕ
