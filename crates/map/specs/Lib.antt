@@ -4,3 +4,4 @@ pub mod MapFile
 pub mod Entity
 pub mod Lookup
 pub mod Rows
+pub mod Tables
