@@ -14,6 +14,7 @@ use Rattle.changes.specs.ChangeFile.{isBefore, riseAfter, risingRefs}
 use Rattle.changes.specs.ChangeSet.{insertRef, sortRefs}
 
 -- ---- the same reference
+
 pub same-self : (a : EntityRef) → sameRef a a ≡ true
 unfolding sameRef
 same-self a = and-i _ _ (eq-eqb (a .kind) (a .kind) refl) (eq-eqb (a .num) (a .num) refl)

@@ -19,6 +19,7 @@ use Rattle.map.proofs.ByKind.{Kind, lanes, boundaries, stopLines, signa
 use Rattle.map.proofs.Parts.{map-parts}
 
 -- ---- a record is present where it has a written form
+
 pub some-form : {A : Type 0} (w : A → Bytes) (o : Option A) → isSome o ≡ isSome (formIn w o)
 unfolding formIn
 some-form w none = refl

@@ -28,6 +28,7 @@ use Rattle.run.proofs.Counts.{Named, named-lists, now-created, now-modi
 use Rattle.run.proofs.Told.{alters-has}
 
 -- ---- what is listed after `normalize`, and in the fold
+
 listed-without : (xs ys : List EntityRef) (a : EntityRef) → listed (without xs ys) a ≡ (listed xs a && not (listed ys a))
 unfolding without
 listed-without xs ys a = listed-keep (λ b. not (listed ys b)) xs a

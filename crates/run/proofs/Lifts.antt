@@ -30,6 +30,7 @@ use Rattle.run.proofs.Rules.{rule-split, short-lists}
 use Rattle.run.proofs.Told.{differ-self}
 
 -- ---- the table
+
 abbrev pub asLifted : Rule → Lift → Option Rule
 asLifted r kept = some r
 asLifted r (eased ks) = some (ruleWith r (r .body) ks (r .controlled))

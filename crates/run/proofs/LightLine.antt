@@ -30,6 +30,7 @@ use Rattle.run.proofs.Lifts.{liftBy, lift-clears}
 use Rattle.run.proofs.LightStep.{lifts-map, plans}
 
 -- ---- which line it is
+
 own-is : (w : RuleBody) → ownLine w ≡ stopsAt w
 unfolding ownLine stopsAt
 own-is (light signals line) = refl

@@ -58,6 +58,7 @@ use Rattle.run.proofs.Shape.{Shape, Fresh, newRefs, listed-created, new
 use Rattle.run.proofs.Told.{goneAt, touchedAt, differ-self}
 
 -- ---- lights are not lifted
+
 pub data IsLight : RuleBody → Type 0 where
   is-light : {signals : List ℕ} {line : Option ℕ} → IsLight (light signals line)
 
@@ -362,6 +363,7 @@ small-fits : (k h : ℕ) → k < h → h < 2 ^ 64 → number .fits k ≡ true
 small-fits k h p q = number-fits k (omega arith)
 
 -- ---- a light on a drawing d that was begun
+
 module _ (m : Map) (ok : isMap m ≡ true) (a : NewTrafficSignal) (known : every (λ n. ltb n (m .next)) (a .lanes) ≡ true) (xs : Polyline) (ws : List Warning) (o : Option Polyline) (d : Drawing) (b : Begun m o d) where
   abbrev n : ℕ
   n = fresh (d .map)

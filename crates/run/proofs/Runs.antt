@@ -40,6 +40,7 @@ use Rattle.run.proofs.Shape.{Shape, law}
 use Rattle.run.proofs.Told.{differ-self}
 
 -- ---- one edit
+
 -- what the three have in common
 abbrev edited : Edit → Map → Answer Draft
 edited (line a) = stopLineEdit a

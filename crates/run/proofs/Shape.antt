@@ -31,6 +31,7 @@ use Rattle.run.proofs.Fold.{StepLaw, normal-rises, normal-created, step
 use Rattle.run.proofs.Told.{told-kept, newNum, goneAt, touchedAt, told, kept-not-gone, kept-untouched, differ-self}
 
 -- ---- the shape
+
 abbrev pub newIn : {A : Type 0} → (A → ℕ) → ℕ → Option A → EntityRef → Bool
 newIn num k o a = eqb (a .kind) k && newNum num o (a .num)
 
