@@ -37,7 +37,7 @@ module _ {A : Type 0} where
       let e : i + suc n ≡ suc i + n = omega arith in
       rw (suc-add, e, tab-add f (suc i) n m)
 
-  tab-equal : (f g : ℕ → A) (i n : ℕ) → ((k : ℕ) → i ≤ k → k < i + n → g k ≡ f k) → tab g i n ≡ tab f i n
+  pub tab-equal : (f g : ℕ → A) (i n : ℕ) → ((k : ℕ) → i ≤ k → k < i + n → g k ≡ f k) → tab g i n ≡ tab f i n
   tab-equal f g i n e = tab-same f g i 0 n (λ k a b. rw (add-zero k) (e k a b)) ∙ rw (add-zero i)
 
   tab-last : (f : ℕ → A) (n : ℕ) → tab f 0 (suc n) ≡ tab f 0 n ++ (f n ∷ [])

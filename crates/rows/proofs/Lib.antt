@@ -1,3 +1,4 @@
 pub mod RowLaws
 pub mod Indexed
 pub mod Plan
+pub mod Searches
