@@ -5,3 +5,4 @@ pub mod Entity
 pub mod Lookup
 pub mod Rows
 pub mod Tables
+pub mod Access

@@ -1,4 +1,6 @@
-// The map's records.
+// The map's records, and the tables that hold them.
+pub mod lookup;
+
 ghost use mathlib.Core.Path.{_≡_};
 ghost use Rattle.map.specs.Record.{signalKindNumber, bulbColorNumber, bulbArrowNumber};
 
@@ -24,6 +26,41 @@ pub enum BulbArrow {
     UpRight,
     DownLeft,
     DownRight,
+}
+
+// Where a record stands in its table.
+pub enum Found {
+    At(usize),
+    Nothing,
+}
+
+// A lane's row of words.
+pub struct LaneRow {
+    pub number: u64,
+    pub kind: u64,
+    pub left: u64,
+    pub left_reversed: bool,
+    pub right: u64,
+    pub right_reversed: bool,
+    pub has_centerline: bool,
+    pub points: u64,
+}
+
+// A rule's row of words, but its lists.
+pub struct RuleHead {
+    pub number: u64,
+    pub kind: u64,
+    pub value: u64,
+    pub has_line: bool,
+    pub line: u64,
+    pub has_shape: bool,
+    pub points: u64,
+}
+
+// A list of a rule.
+pub struct Entries {
+    pub count: usize,
+    pub entries: [u64; 16],
 }
 
 // The number that the tables and files hold.

@@ -5,12 +5,12 @@ use native.Mathlib.Nat.{suc-add, zero-add, add-zero, add-suc, suc-mul, add-mul, 
 use native.Mathlib.Numerals.{add-one}
 use native.Mathlib.Omega.{arith}
 use mathlib.Core.List.{List, [], _∷_, _++_}
-use lib.ListN.{length, set, take, drop, length-drop}
-use lib.Seq.{set-at, take-at}
+use lib.ListN.{length, getD, set, take, drop, length-drop}
+use lib.Seq.{set-at, take-at, ext-getD}
 use Rattle.rows.specs.Lists.{listTo}
 use Rattle.rows.specs.Rows.{without, cut, pasted, moved}
 use mathlib.Core.Logic.{_⊎_, inl, inr, ⊎-elim}
-use Rattle.rows.proofs.RowLaws.{drop-next, cut-start, cut-whole, cut-before, cut-past, cut-in, cut-drop, side}
+use Rattle.rows.proofs.RowLaws.{length-cut, getD-cut, drop-next, cut-start, cut-whole, cut-before, cut-past, cut-in, cut-drop, side}
 
 module _ {A : Type 0} where
   -- f i, f (i + 1) .. f (i + n - 1): what is left of a list from index i on
@@ -37,7 +37,7 @@ module _ {A : Type 0} where
       let e : i + suc n ≡ suc i + n = omega arith in
       rw (suc-add, e, tab-add f (suc i) n m)
 
-  tab-equal : (f g : ℕ → A) (i n : ℕ) → ((k : ℕ) → i ≤ k → k < i + n → g k ≡ f k) → tab g i n ≡ tab f i n
+  pub tab-equal : (f g : ℕ → A) (i n : ℕ) → ((k : ℕ) → i ≤ k → k < i + n → g k ≡ f k) → tab g i n ≡ tab f i n
   tab-equal f g i n e = tab-same f g i 0 n (λ k a b. rw (add-zero k) (e k a b)) ∙ rw (add-zero i)
 
   tab-last : (f : ℕ → A) (n : ℕ) → tab f 0 (suc n) ≡ tab f 0 n ++ (f n ∷ [])
@@ -55,6 +55,23 @@ module _ {A : Type 0} where
 
   pub listTo-same : (f g : ℕ → A) (n : ℕ) → ((k : ℕ) → k < n → g k ≡ f k) → listTo g n ≡ listTo f n
   listTo-same f g n e = listTo-tab g n ∙ tab-equal f g 0 n (λ k a b. e k (omega arith)) ∙ sym (listTo-tab f n)
+
+  tab-at : (f : ℕ → A) (i n j : ℕ) (z : A) → j < n → getD (tab f i n) j z ≡ f (i + j)
+  unfolding tab
+  tab-at f i zero j z h = absurd (let q : ⊥ = omega arith in q)
+  tab-at f i (suc n) zero z h = rw add-zero
+  tab-at f i (suc n) (suc j) z h =
+      let e : i + suc j ≡ suc i + j = omega arith in
+      rw e (tab-at f (suc i) n j z (omega arith))
+
+  pub getD-listTo : (f : ℕ → A) (n j : ℕ) (z : A) → j < n → getD (listTo f n) j z ≡ f j
+  getD-listTo f n j z h = rw (listTo-tab f n) (tab-at f 0 n j z h ∙ rw zero-add)
+
+  -- a part of a list, entry by entry
+  pub listTo-cut : (l : List A) (o n : ℕ) (z : A) → o + n ≤ length l → listTo (λ i. getD l (o + i) z) n ≡ cut l o n
+  listTo-cut l o n z h =
+      let a : length (listTo (λ i. getD l (o + i) z) n) ≡ n = length-listTo (λ i. getD l (o + i) z) n in
+      ext-getD z _ _ (a ∙ sym (length-cut l o n h)) (λ i g. getD-listTo (λ j. getD l (o + j) z) n i z (omega arith) ∙ sym (getD-cut l o n i z (omega arith)))
 
   -- in two parts: j before, m after
   module _ (f g : ℕ → A) (j m : ℕ) where

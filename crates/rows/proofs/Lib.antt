@@ -4,3 +4,4 @@ pub mod Tables
 pub mod RowLaws
 pub mod Indexed
 pub mod Plan
+pub mod Searches

@@ -133,6 +133,10 @@ module _ {ℓ} {A : Type ℓ} where
   getD-before d p s n i z h hd =
       rw (← getD-take p (pasted d p s n) i z h, take-pasted p d p s n (le-refl p) hd, getD-take)
 
+  pub getD-in : (d : List A) (p : ℕ) (s : List A) (n i : ℕ) (z : A) → i < n → p ≤ length d → n ≤ length s → getD (pasted d p s n) (p + i) z ≡ getD s i z
+  getD-in d p s n i z h hd hs =
+      sym (getD-cut (pasted d p s n) p n i z h) ∙ ap (λ (l : List A). getD l i z) (cut-start d p s n n (le-refl n) hd hs) ∙ getD-cut s 0 n i z h ∙ rw zero-add
+
   -- ---- what a store leaves
   pub cut-set-off : (d : List A) (p : ℕ) (v : A) (at k : ℕ) → p < at → cut (set d p v) at k ≡ cut d at k
   unfolding cut

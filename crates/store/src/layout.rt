@@ -8,6 +8,15 @@ pub const WORDS: usize = 13671;
 
 pub const COORDS: usize = 105280;
 
+// Where the rows of lanes and rules begin, and how wide they are: the readers of whole rows go by these.
+pub const LANES: usize = 7;
+
+pub const LANE: usize = 8;
+
+pub const RULES: usize = 1895;
+
+pub const RULE: usize = 92;
+
 const LIMITS: [usize; 6] = [64, 128, 64, 64, 32, 128];
 
 const WIDTHS: [usize; 6] = [8, 2, 2, 13, 5, 92];
