@@ -1,0 +1,3 @@
+pub mod ChangeSet
+pub mod ChangeFile
+pub mod Running

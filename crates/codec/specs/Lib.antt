@@ -1,0 +1,4 @@
+pub mod Format
+pub mod Number
+pub mod Double
+pub mod Items

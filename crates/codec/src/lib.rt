@@ -1,0 +1,1 @@
+// Whole numbers, doubles, lists and options as bytes. Definitions only so far.

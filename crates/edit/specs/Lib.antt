@@ -1,0 +1,5 @@
+pub mod Place
+pub mod Edit
+pub mod StopLine
+pub mod Light
+pub mod Links

@@ -1,0 +1,33 @@
+// The three edits: what a caller asks for.
+
+// Where a stop line goes. Given points come beside it, in a slice of coordinates.
+pub enum Placement {
+    // this far before the end of the first lane
+    AtLaneEnd(f64),
+    // at this station of the first lane
+    AtStation(f64),
+    Given,
+}
+
+// The rule that makes vehicles stop at a new line.
+pub enum StopRule {
+    StopSign,
+    Marking,
+    NoRule,
+}
+
+// Which line a light uses.
+pub enum StopLineChoice {
+    // the group's, or one that a rule of the first lane names, or a new one at the end of the first lane
+    Automatic,
+    Existing(u64),
+    New(Placement),
+    NoLine,
+}
+
+// A lamp.
+pub struct SignalBulb {
+    pub position: geometry::Point3,
+    pub color: map::BulbColor,
+    pub arrow: map::BulbArrow,
+}

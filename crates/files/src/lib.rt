@@ -1,0 +1,1 @@
+// Map files and change set files. Definitions only so far.

@@ -1,0 +1,4 @@
+pub mod Parts
+pub mod ByKind
+pub mod Presence
+pub mod ReadLaws

@@ -1,0 +1,1 @@
+// Runs of edits. Definitions and laws only so far.
