@@ -1,1 +1,2 @@
-mod RoundTrip
+pub mod RoundTrip
+mod Cases

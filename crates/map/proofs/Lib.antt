@@ -1,2 +1,5 @@
+pub mod Parts
+pub mod ByKind
+pub mod Presence
 pub mod ReadLaws
 pub mod UpdateLaws

@@ -1,0 +1,14 @@
+mod Told
+mod Counts
+mod Fold
+mod Shape
+mod Answers
+mod Rules
+mod Lifts
+mod PlaceWarned
+mod LineStep
+mod LinksStep
+mod LightStep
+mod LightLine
+mod Refusals
+pub mod Runs

@@ -1,0 +1,7 @@
+// Links the static libraries that run.sh has `rt staticlib` write.
+fn main() {
+    let here = std::env::var("CARGO_MANIFEST_DIR").unwrap();
+    println!("cargo:rustc-link-search=native={here}/../target/staticlib");
+    println!("cargo:rustc-link-lib=static=root");
+    println!("cargo:rerun-if-changed=../target/staticlib");
+}

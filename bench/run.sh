@@ -1,0 +1,12 @@
+#!/bin/sh
+# run.sh DRIVER [arguments]: builds the proved static libraries and the drivers, and runs one of them.
+# Drivers: roots (patterns of all classes against the machine's root).
+set -eu
+cd "$(dirname "$0")/.."
+for crate in root; do
+    rt staticlib "$crate" >/dev/null
+done
+cd bench
+driver=$1
+shift
+exec cargo run --quiet --release --offline --bin "$driver" -- "$@"

@@ -1,0 +1,62 @@
+use Prim.Native.Nat.{_≤_, _<_, _-_, _+_}
+use native.Mathlib.Omega.{arith}
+use borrow.Author.Needs.{needs}
+use lib.ListN.{length}
+use Rattle.root_vectors.proofs.pattern.Statement.{statement}
+use Rattle.root_vectors.proofs.pattern.Tie as tie
+use Rattle.root_vectors.proofs.pattern.Reads as reads
+use Rattle.root_vectors.proofs.pattern.Lts as lts
+use Rattle.root_vectors.proofs.digit.Reads as digit-reads
+
+abbrev Inv-loop : tie.InvT-loop
+Inv-loop s at n₀ i₀ n i = i ≤ 16
+
+abbrev μ-loop : tie.MeasureT-loop
+μ-loop s at n₀ i₀ n i = 16 - i
+
+loop-holds : tie.Need-loop-holds Inv-loop μ-loop
+loop-holds c = omega arith
+
+mul-n : tie.Need-mul-n Inv-loop μ-loop
+mul-n c = omega arith
+
+add-digit : tie.Need-add-digit Inv-loop μ-loop
+add-digit c = omega arith
+
+shared-slice-read-digit : tie.Need-shared-slice-read-digit Inv-loop μ-loop
+shared-slice-read-digit c = omega arith
+
+digit-requires : tie.Need-digit-requires Inv-loop μ-loop
+digit-requires c κs = search needs
+
+add-n : tie.Need-add-n Inv-loop μ-loop
+add-n c = omega arith
+
+add-i : tie.Need-add-i Inv-loop μ-loop
+add-i c = omega arith
+
+loop-less : tie.Need-loop-less Inv-loop μ-loop
+loop-less c = omega arith
+
+loop-again : tie.Need-loop-again Inv-loop μ-loop
+loop-again c = omega arith
+
+returns : tie.Need-returns Inv-loop μ-loop
+returns c = omega arith
+
+pub pattern-spec : {M : Type 1} → statement M
+pattern-spec =
+    tie.close
+    (tie.spec
+    Inv-loop
+    μ-loop
+    loop-holds
+    mul-n
+    add-digit
+    shared-slice-read-digit
+    digit-requires
+    add-n
+    add-i
+    loop-less
+    loop-again
+    returns)

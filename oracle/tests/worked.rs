@@ -1,0 +1,245 @@
+//! The worked crossings of 01, as far as the Rust answers them.
+
+use oracle::codec::*;
+use oracle::edits::{Call, Choice, NewLight, NewLine, Outcome, Placement, Refusal, StopRule};
+use oracle::fold;
+use oracle::run::{Reason, Run, Verdict};
+use oracle::sample::{crossing, plain_light, stop_sign};
+
+fn done(run: &mut Run, call: &Call) -> (u64, FileSet) {
+    match run.call(call) {
+        Verdict::Answer(Outcome::Done { number, set }) => (number, set),
+        other => panic!("{other:?}"),
+    }
+}
+
+fn refused(run: &mut Run, call: &Call) -> Refusal {
+    match run.call(call) {
+        Verdict::Answer(Outcome::Refused(r)) => r,
+        other => panic!("{other:?}"),
+    }
+}
+
+fn bytes(text: &str) -> Vec<u8> {
+    from_hex(text).unwrap()
+}
+
+fn at_end(offset: f64) -> Call {
+    stop_sign(&[3], Placement::LaneEnd(offset))
+}
+
+fn line_points(run: &Run, number: u64) -> Vec<Point> {
+    run.file.stop_line(number).unwrap().points.clone()
+}
+
+#[test]
+fn p1_p2_p3() {
+    let mut s = Run::open(crossing(2.0));
+    let (number, first) = done(&mut s, &at_end(0.0));
+    assert_eq!(number, 4);
+    assert_eq!(write_set(&first), bytes("02 05 04 08 05 00 00 00"));
+    assert_eq!(line_points(&s, 4), [[10.0, 2.0, 0.0], [10.0, -2.0, 0.0]]);
+    let (number, second) = done(&mut s, &plain_light(&[3]));
+    assert_eq!(number, 6);
+    assert_eq!(
+        write_set(&second),
+        bytes("02 06 06 08 07 00 01 08 05 02 03 00 04 08 05")
+    );
+    let signal = s.file.signal(6).unwrap();
+    assert_eq!(signal.housing, [[10.0, 0.6, 5.0], [10.0, -0.6, 5.0]]);
+    assert_eq!(signal.height, Some(0.5));
+    let colors: Vec<u8> = signal.bulbs.iter().map(|b| b.color).collect();
+    assert_eq!(colors, [2, 1, 0]);
+    assert!(s.file.rule(5).is_none());
+    assert!(s.file.rule(7).is_some());
+    let both = bytes("03 05 04 06 06 08 07 00 00 00");
+    assert_eq!(s.fold_bytes(), both);
+    assert_eq!(write_set(&fold::fold_all(&[first, second])), both);
+}
+
+#[test]
+fn p4_p5() {
+    for (offset, set) in [
+        (12.0, "02 05 04 08 05 00 00 01 01 01 03"),
+        (10.0, "02 05 04 08 05 00 00 00"),
+    ] {
+        let mut s = Run::open(crossing(2.0));
+        assert_eq!(write_set(&done(&mut s, &at_end(offset)).1), bytes(set));
+        assert_eq!(line_points(&s, 4), [[0.0, 2.0, 0.0], [0.0, -2.0, 0.0]]);
+    }
+}
+
+#[test]
+fn p6_p7() {
+    let mut s = Run::open(crossing(2.0));
+    assert_eq!(refused(&mut s, &at_end(-1.0)), Refusal::new(4, &[2]));
+    let call = stop_sign(&[9, 3, 3], Placement::LaneEnd(0.0));
+    assert_eq!(refused(&mut s, &call), Refusal::new(2, &[1, 9]));
+    assert_eq!(s.file, crossing(2.0));
+}
+
+#[test]
+fn p8() {
+    let mut narrow = Run::open(crossing(0.0005));
+    assert_eq!(refused(&mut narrow, &at_end(0.0)), Refusal::new(6, &[5]));
+    done(&mut Run::open(crossing(0.00051)), &at_end(0.0));
+}
+
+#[test]
+fn p9() {
+    assert_eq!(2f64.sqrt().to_bits(), 0x3ff6_a09e_667f_3bcd);
+    assert_eq!(f64::from_bits(1).sqrt().to_bits(), 0x1e60_0000_0000_0000);
+    let x = oracle::vectormap::root_of_squares(1.0, 1.0);
+    assert_eq!(x.to_bits(), 0x3ff6_a09e_667f_3bcd);
+    assert_eq!((1e-9f64 * 1e-9).to_bits(), 0x3c32_725d_d1d2_43ac);
+    assert_eq!(1e-18f64.to_bits(), 0x3c32_725d_d1d2_43ac);
+}
+
+#[test]
+fn p10() {
+    assert_eq!(write_number(127), [0x7f]);
+    assert_eq!(write_number(128), [0x80, 1]);
+    assert_eq!(read_number(&[0x80, 0]), Err(Bad));
+}
+
+#[test]
+fn stations_past_the_end() {
+    for (station, warnings) in [(10.0000000005, 0), (10.00000001, 1)] {
+        let mut s = Run::open(crossing(2.0));
+        let call = stop_sign(&[3], Placement::Station(station));
+        assert_eq!(done(&mut s, &call).1.warnings.len(), warnings);
+        assert_eq!(line_points(&s, 4), [[10.0, 2.0, 0.0], [10.0, -2.0, 0.0]]);
+    }
+}
+
+#[test]
+fn full_after_the_old_rule_goes() {
+    let mut map = crossing(2.0);
+    let other = |number| Rule {
+        number,
+        what: What::Other { kind: 1 },
+        lanes: vec![],
+        crosswalks: vec![],
+    };
+    map.rules = (100..226).map(other).collect();
+    map.next = 300;
+    let mut s = Run::open(map);
+    done(&mut s, &at_end(0.0));
+    done(&mut s, &at_end(1.0));
+    assert_eq!(s.file.rules.len(), 128);
+    let third = s.call(&at_end(2.0));
+    assert_eq!(third, Verdict::LeftOut(Reason::Full, Refusal::new(10, &[])));
+    let (_, set) = done(&mut s, &plain_light(&[3]));
+    assert_eq!(set.deleted.len(), 1);
+    assert_eq!(s.file.rules.len(), 128);
+}
+
+/// A new line beside a group's: the group keeps its own, and the stop rules
+/// on the new line's number are lifted.
+#[test]
+fn a_group_keeps_its_line() {
+    let mut map = crossing(2.0);
+    map.stop_lines = vec![Line {
+        number: 4,
+        points: vec![[5.0, 2.0, 0.0], [5.0, -2.0, 0.0]],
+    }];
+    let light = What::Light {
+        signals: vec![],
+        line: Some(4),
+    };
+    let marking = What::Marking { line: 8 };
+    map.rules = vec![
+        Rule {
+            number: 5,
+            what: light,
+            lanes: vec![],
+            crosswalks: vec![],
+        },
+        Rule {
+            number: 6,
+            what: marking,
+            lanes: vec![3, 77, 3],
+            crosswalks: vec![],
+        },
+    ];
+    map.next = 8;
+    let mut s = Run::open(map);
+    let call = Call::Light(NewLight {
+        lanes: vec![3],
+        choice: Choice::New(Placement::LaneEnd(0.0)),
+        housing: None,
+        height: None,
+        pedestrian: true,
+        bulbs: None,
+        group: Some(5),
+    });
+    let (number, set) = done(&mut s, &call);
+    assert_eq!(number, 9);
+    assert_eq!(
+        write_set(&set),
+        bytes("02 05 08 06 09 02 08 05 08 06 00 02 03 00 04 08 06")
+    );
+    let group = s.file.rule(5).unwrap();
+    let kept = What::Light {
+        signals: vec![9],
+        line: Some(4),
+    };
+    assert_eq!(group.what, kept);
+    assert_eq!(group.lanes, [3]);
+    assert_eq!(s.file.rule(6).unwrap().lanes, [77]);
+}
+
+#[test]
+fn an_absent_line_of_a_rule_is_left_out() {
+    let mut map = crossing(2.0);
+    map.rules = vec![Rule {
+        number: 2,
+        what: What::Marking { line: 50 },
+        lanes: vec![3],
+        crosswalks: vec![],
+    }];
+    let mut s = Run::open(map);
+    let want = Verdict::LeftOut(Reason::AbsentLine, Refusal::new(2, &[5, 50]));
+    assert_eq!(s.call(&plain_light(&[3])), want);
+}
+
+#[test]
+fn seventeen_lanes_without_a_rule() {
+    let mut map = crossing(2.0);
+    for number in 10..26 {
+        let number = Lane {
+            number,
+            ..map.lanes[0].clone()
+        };
+        map.lanes.push(number);
+    }
+    map.next = 40;
+    let mut line = NewLine {
+        lanes: map.lanes.iter().map(|l| l.number).collect(),
+        placement: Placement::LaneEnd(0.0),
+        rule: StopRule::None,
+    };
+    let mut s = Run::open(map);
+    let (_, set) = done(&mut s, &Call::Line(line.clone()));
+    assert_eq!(write_set(&set), bytes("01 05 28 00 00 01 02 05 28"));
+    line.rule = StopRule::Marking;
+    let full = Verdict::LeftOut(Reason::Full, Refusal::new(10, &[]));
+    assert_eq!(s.call(&Call::Line(line)), full);
+}
+
+#[test]
+fn numbers_spent() {
+    let mut map = crossing(2.0);
+    map.next = u64::MAX - 1;
+    let mut s = Run::open(map);
+    let spent = Verdict::LeftOut(Reason::Spent, Refusal::new(11, &[]));
+    assert_eq!(s.call(&at_end(0.0)), spent);
+    let alone = Call::Line(NewLine {
+        lanes: vec![3],
+        placement: Placement::LaneEnd(0.0),
+        rule: StopRule::None,
+    });
+    assert_eq!(done(&mut s, &alone).0, u64::MAX - 1);
+    assert_eq!(s.file.next, u64::MAX);
+    assert_eq!(s.call(&alone), spent);
+}

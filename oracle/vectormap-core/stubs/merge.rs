@@ -1,0 +1,1 @@
+//! Stub: merging lanes is no part of the three edits.
