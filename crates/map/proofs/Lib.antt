@@ -2,3 +2,4 @@ pub mod Parts
 pub mod ByKind
 pub mod Presence
 pub mod ReadLaws
+pub mod UpdateLaws

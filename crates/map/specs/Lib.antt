@@ -6,3 +6,4 @@ pub mod Lookup
 pub mod Rows
 pub mod Tables
 pub mod Access
+pub mod Updates

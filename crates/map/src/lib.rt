@@ -1,5 +1,6 @@
 // The map's records, and the tables that hold them.
 pub mod lookup;
+pub mod update;
 
 ghost use mathlib.Core.Path.{_≡_};
 ghost use Rattle.map.specs.Record.{signalKindNumber, bulbColorNumber, bulbArrowNumber};
