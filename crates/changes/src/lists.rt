@@ -1,15 +1,15 @@
 // Lists of entries in flat slices. An entry is two words, kind and number. A list that is walked is given by the word
 // at which it ends and by how many of its entries are left: so a walk has one number to keep.
 ghost use mathlib.Core.Path.{_≡_};
-ghost use mathlib.Core.Bool.{true};
+ghost use mathlib.Core.Bool.{_&&_};
 ghost use Prim.Native.Nat.{_+_, _*_, _≤_};
 ghost use mathlib.Core.List.{_++_};
 ghost use lib.ListN.{length};
 ghost use Rattle.map.specs.Entity.{entity, compareRefs};
 ghost use Rattle.changes.specs.Order.{orderOf, firstsOf};
 ghost use Rattle.changes.specs.ChangeSet.{sortRefs, without};
-ghost use Rattle.changes.specs.ChangeFile.{apart};
-ghost use Rattle.changes.specs.Layout.{refAt};
+ghost use Rattle.changes.specs.ChangeFile.{isBefore, entry, entries, apart};
+ghost use Rattle.changes.specs.Layout.{refAt, refsAt};
 ghost use Rattle.changes.specs.Walk.{refsTo, Walks, putRef, written, Put};
 
 pub enum Order {
@@ -174,6 +174,50 @@ pub fn are_apart(t: &[u64], e: usize, n: usize, d: usize, m: usize) -> bool
                 over -= 1;
             }
         }
+    }
+    true
+}
+
+// Whether (l, y) is an entry, and comes after (k, x).
+pub fn follows(k: u64, x: u64, l: u64, y: u64) -> bool
+    ensures { λ r. ⌜ r ≡ (isBefore (compareRefs (entity k x) (entity l y)) && entry .fits (entity l y)) ⌝ }
+{
+    if l == 0 {
+        return false;
+    }
+    if 8 < l {
+        return false;
+    }
+    let o = compare(k, x, l, y);
+    match o {
+        Order::Before => true,
+        Order::Same => false,
+        Order::After => false,
+    }
+}
+
+// Whether the n entries from p on are a list of a change set.
+pub fn entries_ok(t: &[u64], p: usize, n: usize) -> bool
+    requires { ⌜ p + 1024 ≤ length (now t) ⌝ }
+    ensures { λ r. ⌜ r ≡ entries .fits (refsAt (now (t .entry)) p n) ⌝ }
+{
+    if 512 < n {
+        return false;
+    }
+    let e = p + n * 2;
+    let mut left = n;
+    let mut k = 0;
+    let mut x = 0;
+    while 0 < left {
+        let q = e - left * 2;
+        let l = t[q];
+        let y = t[q + 1];
+        if !follows(k, x, l, y) {
+            return false;
+        }
+        k = l;
+        x = y;
+        left -= 1;
     }
     true
 }
