@@ -1,0 +1,5 @@
+pub mod Places
+pub mod Words
+pub mod Points
+pub mod Options
+pub mod BulbLaws
