@@ -49,7 +49,7 @@ EDITS = [
     ('ceilings not tested', 'edit/specs/Edit', 'withinCeilings (d .map) && foldFits fold', 'foldFits fold'),
     ('fold ceiling not tested', 'edit/specs/Edit', 'withinCeilings (d .map) && foldFits fold', 'withinCeilings (d .map)',
      'the fold of a run names at most the 480 records of a map, so this ceiling is never met'),
-    ('unknown lane taken', 'edit/specs/Place', '  refuseFound (unknownIn (λ l. l .num) (m .lanes) lanes) 1\n', ''),
+    ('unknown lane taken', 'place/specs/Place', '  refuseFound (unknownIn (λ l. l .num) (m .lanes) lanes) 1\n', ''),
     ('absent rule is 12', 'edit/specs/Links', 'r ← present (ruleOf m (a .rule)) 2 (8 ∷ a .rule ∷ [])', 'r ← present (ruleOf m (a .rule)) 12 (8 ∷ a .rule ∷ [])'),
     # ---- numbers
     ('numbers invented', 'edit/specs/StopLine', 'changes = record { created = entity 5 n ∷ []; modified', 'changes = record { created = entity 5 0 ∷ []; modified'),

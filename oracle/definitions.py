@@ -42,7 +42,7 @@ use Rattle.changes.specs.ChangeSet.{ChangeSet, noChanges, tallyOf}
 use Rattle.changes.specs.ChangeFile.{changeFile}
 use Rattle.changes.specs.Running.{State, opening}
 use Rattle.files.specs.Files.{readMap, readChanges}
-use Rattle.edit.specs.declared.Placement.the-variants.{AtLaneEnd, AtStation, Given}
+use Rattle.place.specs.declared.Placement.the-variants.{AtLaneEnd, AtStation, Given}
 use Rattle.edit.specs.declared.StopRule.the-variants.{StopSign, Marking, NoRule}
 use Rattle.edit.specs.declared.StopLineChoice.the-variants.{Automatic, Existing, New, NoLine}
 use Rattle.edit.specs.Edit.{Outcome}
@@ -308,7 +308,7 @@ def main():
     shutil.copytree(os.path.join(ROOT, 'crates'), os.path.join(where, 'crates'), dirs_exist_ok=True)
     text = open(os.path.join(ROOT, 'crates.txt')).read()
     open(os.path.join(where, 'crates.txt'), 'w').write(
-        text + 'compare: refusal rows geometry codec map changes files edit run\n')
+        text + 'compare: refusal rows geometry codec map changes files place edit run\n')
     calls = call_theorems(asked(options.seed, 20 + options.calls, 'small'), options.calls + options.calls // 6)
     runs = run_theorems(asked(options.seed + 1, 40 * options.runs, 'small'), options.runs + options.runs // 5, options.edits)
     items = calls + runs

@@ -21,8 +21,8 @@ use Rattle.map.specs.Rows.{withRules}
 use Rattle.changes.specs.ChangeSet.{ChangeSet, noChanges}
 use Rattle.changes.specs.ChangeFile.{changeFile}
 use Rattle.changes.specs.Running.{State, opening}
-use Rattle.edit.specs.declared.Placement.{Placement}
-use Rattle.edit.specs.declared.Placement.the-variants.{AtLaneEnd, AtStation, Given}
+use Rattle.place.specs.declared.Placement.{Placement}
+use Rattle.place.specs.declared.Placement.the-variants.{AtLaneEnd, AtStation, Given}
 use Rattle.edit.specs.declared.StopRule.{StopRule}
 use Rattle.edit.specs.declared.StopRule.the-variants.{StopSign, Marking, NoRule}
 use Rattle.edit.specs.declared.StopLineChoice.{StopLineChoice}

@@ -24,7 +24,7 @@ use Rattle.map.specs.MapFile.{lineString}
 use Rattle.changes.specs.ChangeSet.{ChangeSet}
 use Rattle.changes.specs.ChangeFile.{changeFile}
 use Rattle.changes.specs.Running.{State, opening}
-use Rattle.edit.specs.declared.Placement.the-variants.{AtLaneEnd}
+use Rattle.place.specs.declared.Placement.the-variants.{AtLaneEnd}
 use Rattle.edit.specs.declared.StopRule.the-variants.{StopSign}
 use Rattle.edit.specs.declared.StopLineChoice.the-variants.{Automatic}
 use Rattle.edit.specs.Edit.{Outcome}

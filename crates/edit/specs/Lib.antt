@@ -1,4 +1,3 @@
-pub mod Place
 pub mod Edit
 pub mod StopLine
 pub mod Light

@@ -27,12 +27,12 @@ use Rattle.map.specs.Lookup.{lineOf, ruleOf}
 use Rattle.map.specs.Rows.{fresh, withLine, withSignal, withRule, withRules, ruleWith}
 use Rattle.changes.specs.ChangeSet.{Warning, warning}
 use Rattle.changes.specs.Running.{State}
-use Rattle.edit.specs.declared.Placement.{Placement}
-use Rattle.edit.specs.declared.Placement.the-variants.{AtLaneEnd}
+use Rattle.place.specs.declared.Placement.{Placement}
+use Rattle.place.specs.declared.Placement.the-variants.{AtLaneEnd}
 use Rattle.edit.specs.declared.StopLineChoice.{StopLineChoice}
 use Rattle.edit.specs.declared.StopLineChoice.the-variants.{Automatic, Existing, New, NoLine}
 use Rattle.edit.specs.declared.SignalBulb.{SignalBulb}
-use Rattle.edit.specs.Place.{Placed, checkLaneList, checkPolyline, laneCenterline, crossSection, placeStopLine, open-place}
+use Rattle.place.specs.Place.{Placed, checkLaneList, checkPolyline, laneCenterline, crossSection, placeStopLine, open-place}
 use Rattle.edit.specs.Edit.{Draft, Outcome, call, open-edit}
 
 -- what a caller can ask for; the tables hold the enums' numbers

@@ -14,7 +14,7 @@ use Rattle.map.specs.Lookup.{signalOf, ruleOf, unknownIn}
 use Rattle.map.specs.Rows.{withRules, ruleWith}
 use Rattle.changes.specs.ChangeSet.{ChangeSet, noChanges}
 use Rattle.changes.specs.Running.{State}
-use Rattle.edit.specs.Place.{refuseFound, open-place}
+use Rattle.place.specs.Place.{refuseFound, open-place}
 use Rattle.edit.specs.Edit.{Draft, Outcome, call, open-edit}
 
 pub record RegulatoryLinks : Type 0 where

@@ -9,10 +9,10 @@ use Rattle.map.specs.Entity.{entity}
 use Rattle.map.specs.Rows.{fresh, withLine, withRule}
 use Rattle.changes.specs.ChangeSet.{ChangeSet, Warning, warning}
 use Rattle.changes.specs.Running.{State}
-use Rattle.edit.specs.declared.Placement.{Placement}
+use Rattle.place.specs.declared.Placement.{Placement}
 use Rattle.edit.specs.declared.StopRule.{StopRule}
 use Rattle.edit.specs.declared.StopRule.the-variants.{StopSign, Marking, NoRule}
-use Rattle.edit.specs.Place.{checkLaneList, placeStopLine, open-place}
+use Rattle.place.specs.Place.{checkLaneList, placeStopLine, open-place}
 use Rattle.edit.specs.Edit.{Draft, Outcome, call, open-edit}
 
 pub record NewStopLine : Type 0 where

@@ -1,14 +1,5 @@
 // The three edits: what a caller asks for.
 
-// Where a stop line goes. Given points come beside it, in a slice of coordinates.
-pub enum Placement {
-    // this far before the end of the first lane
-    AtLaneEnd(f64),
-    // at this station of the first lane
-    AtStation(f64),
-    Given,
-}
-
 // The rule that makes vehicles stop at a new line.
 pub enum StopRule {
     StopSign,
@@ -21,7 +12,7 @@ pub enum StopLineChoice {
     // the group's, or one that a rule of the first lane names, or a new one at the end of the first lane
     Automatic,
     Existing(u64),
-    New(Placement),
+    New(place::Placement),
     NoLine,
 }
 

@@ -18,7 +18,7 @@ use Rattle.map.specs.MapFile.{isMap}
 use Rattle.map.specs.Record.{Lane, Map}
 use Rattle.map.proofs.Presence.{held-below}
 use Rattle.map.proofs.ByKind.{up₁}
-use Rattle.edit.specs.Place.{refuseFound, checkLaneList}
+use Rattle.place.specs.Place.{refuseFound, checkLaneList}
 use Rattle.run.proofs.Shape.{Fresh}
 use Rattle.run.proofs.Told.{goneAt, touchedAt, kept-not-gone, kept-untouched}
 

@@ -19,9 +19,9 @@ use Rattle.map.specs.Record.{RuleBody, light, sign, marking, rightOfWay, crossi
 use Rattle.map.specs.Rows.{fresh}
 use Rattle.edit.specs.Edit.{Draft}
 use Rattle.edit.specs.Light.{stopsAt, existingStopLine, lightLine, groupLine, Plan, Planned, Drawing, drawPlan, autoPlan, planFor, lineDrawn, lightPlan, lightDraft, lightEdit, liftAll, isStopAt, NewTrafficSignal}
-use Rattle.edit.specs.Place.{checkLaneList, placeStopLine}
-use Rattle.edit.specs.declared.Placement.{Placement}
-use Rattle.edit.specs.declared.Placement.the-variants.{AtLaneEnd}
+use Rattle.place.specs.Place.{checkLaneList, placeStopLine}
+use Rattle.place.specs.declared.Placement.{Placement}
+use Rattle.place.specs.declared.Placement.the-variants.{AtLaneEnd}
 use Rattle.edit.specs.declared.StopLineChoice.{StopLineChoice}
 use Rattle.edit.specs.declared.StopLineChoice.the-variants.{Existing, New, NoLine, Automatic}
 use Rattle.run.specs.Law.{ownLine, orNext, lineOnLane, lineOfRule, groupsLine, firstLanesLine, foundOr, chosenLine, lightsLine, meets, haltLine, isLine, noStop}

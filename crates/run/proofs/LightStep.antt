@@ -43,9 +43,9 @@ use Rattle.changes.proofs.Entries.{Warned, none-warned, both-warned, more-warne
 use Rattle.changes.proofs.Refs.{listed-append, same-as}
 use Rattle.edit.specs.Edit.{Draft}
 use Rattle.edit.specs.Light.{liftWarning, housingFor, synthesizeSignalGeometry, existingStopLine, autoPlan, drawPlan, lightLine, groupLine, groupRule, badHeight, defaultHeight, checkHousing, checkChoice, planFor, anchorFor, lightPlan, lightDraft, lightEdit, lineDrawn, planPoints, use-line, use-none, draw, storedBulb, bulbsOr, defaultBulbs, defaultBulb, colors, heightOf, NewTrafficSignal, Plan, Planned, Drawing, isStopAt, kept, lift, easedRef, goneRef, liftAll, signalDrawn, grouped, extended, joinedLanes, newSignal, bulbsOf, positions, Lift, eased, gone}
-use Rattle.edit.specs.Place.{Placed, checkLaneList, placeStopLine}
-use Rattle.edit.specs.declared.Placement.{Placement}
-use Rattle.edit.specs.declared.Placement.the-variants.{AtLaneEnd}
+use Rattle.place.specs.Place.{Placed, checkLaneList, placeStopLine}
+use Rattle.place.specs.declared.Placement.{Placement}
+use Rattle.place.specs.declared.Placement.the-variants.{AtLaneEnd}
 use Rattle.edit.specs.declared.SignalBulb.{SignalBulb}
 use Rattle.edit.specs.declared.StopLineChoice.{StopLineChoice}
 use Rattle.edit.specs.declared.StopLineChoice.the-variants.{Existing, New, NoLine, Automatic}

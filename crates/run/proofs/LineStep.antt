@@ -24,7 +24,7 @@ use Rattle.map.proofs.Parts.{lineStringOk, signalOk, ruleOk, bodyOk, line-on-ma
 use Rattle.changes.specs.ChangeFile.{maxWarnings}
 use Rattle.changes.proofs.Entries.{Warned, more-warned, both-warned, one-warned}
 use Rattle.edit.specs.Edit.{Draft}
-use Rattle.edit.specs.Place.{Placed, checkLaneList, placeStopLine}
+use Rattle.place.specs.Place.{Placed, checkLaneList, placeStopLine}
 use Rattle.edit.specs.StopLine.{NewStopLine, ruleAt, lineDraft, stopLineEdit}
 use Rattle.edit.specs.declared.StopRule.{StopRule}
 use Rattle.edit.specs.declared.StopRule.the-variants.{StopSign, Marking, NoRule}

@@ -30,7 +30,7 @@ use Rattle.changes.proofs.Entries.{Warned, none-warned}
 use Rattle.changes.proofs.Refs.{same-as}
 use Rattle.edit.specs.Edit.{Draft}
 use Rattle.edit.specs.Links.{RegulatoryLinks, kindsOf, firstEntry, relinked, toList, stopLinesOf, sameLinks, linkChanges, linksEdit}
-use Rattle.edit.specs.Place.{refuseFound}
+use Rattle.place.specs.Place.{refuseFound}
 use Rattle.run.proofs.Answers.{never, done-is, went, next, past, there, unfound, known, below-fits, no-fresh, no-ok}
 use Rattle.run.proofs.Rules.{body-ok, rule-made, put, put-all, put-same, put-gone, put-touched}
 use Rattle.run.proofs.Shape.{Shape, listed-created}

@@ -20,9 +20,9 @@ use Rattle.map.specs.Record.{Map}
 use Rattle.map.proofs.Presence.{next-fits}
 use Rattle.changes.specs.ChangeSet.{warning}
 use Rattle.changes.proofs.Entries.{Warned, none-warned, one-warned}
-use Rattle.edit.specs.Place.{Placed, laneCenterline, checkPolyline, crossSection, clampWarning, placeAt, placeAs, placeStopLine}
-use Rattle.edit.specs.declared.Placement.{Placement}
-use Rattle.edit.specs.declared.Placement.the-variants.{AtLaneEnd, AtStation, Given}
+use Rattle.place.specs.Place.{Placed, laneCenterline, checkPolyline, crossSection, clampWarning, placeAt, placeAs, placeStopLine}
+use Rattle.place.specs.declared.Placement.{Placement}
+use Rattle.place.specs.declared.Placement.the-variants.{AtLaneEnd, AtStation, Given}
 use Rattle.run.proofs.Answers.{done-is, went, next, past}
 
 pub first-fits : (m : Map) → isMap m ≡ true → (ls : List ℕ) → every (λ n. ltb n (m .next)) ls ≡ true → getD ls 0 0 < 2 ^ 64

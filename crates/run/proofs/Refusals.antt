@@ -22,10 +22,10 @@ use Rattle.changes.specs.Running.{State, foldFits}
 use Rattle.edit.specs.Edit.{Draft, finish}
 use Rattle.edit.specs.Light.{NewTrafficSignal, Plan, use-line, use-none, draw, lightLine, groupLine, differs, checkChoice, existingStopLine, drawPlan, autoPlan, planFor, anchorFor, synthesizeSignalGeometry, housingFor, stationOf, badHeight, checkHousing, lightPlan, lightEdit}
 use Rattle.edit.specs.Links.{RegulatoryLinks, kindsOf, relinked, linksEdit}
-use Rattle.edit.specs.Place.{End, Ends, laneCenterline, refuseFound, checkLaneList, checkPolyline, withSide, withLane, withLanes, section, crossSection, placeAt, placeAs, placeStopLine}
+use Rattle.place.specs.Place.{End, Ends, laneCenterline, refuseFound, checkLaneList, checkPolyline, withSide, withLane, withLanes, section, crossSection, placeAt, placeAs, placeStopLine}
 use Rattle.edit.specs.StopLine.{NewStopLine, stopLineEdit}
-use Rattle.edit.specs.declared.Placement.{Placement}
-use Rattle.edit.specs.declared.Placement.the-variants.{AtLaneEnd, AtStation, Given}
+use Rattle.place.specs.declared.Placement.{Placement}
+use Rattle.place.specs.declared.Placement.the-variants.{AtLaneEnd, AtStation, Given}
 use Rattle.edit.specs.declared.StopLineChoice.{StopLineChoice}
 use Rattle.edit.specs.declared.StopLineChoice.the-variants.{Existing, New, NoLine, Automatic}
 

@@ -18,8 +18,8 @@ use Rattle.map.specs.Record.{BoundaryRef, Lane, Map}
 use Rattle.map.specs.Entity.{entity}
 use Rattle.map.specs.Lookup.{laneOf, oriented, unknownIn, open-lookup}
 use Rattle.changes.specs.ChangeSet.{Warning, warning}
-use Rattle.edit.specs.declared.Placement.{Placement}
-use Rattle.edit.specs.declared.Placement.the-variants.{AtLaneEnd, AtStation, Given}
+use Rattle.place.specs.declared.Placement.{Placement}
+use Rattle.place.specs.declared.Placement.the-variants.{AtLaneEnd, AtStation, Given}
 
 -- ---- the list of lanes
 

@@ -1,0 +1,10 @@
+// What the edits read from the map before they store: where a stop line goes, and the checks on the way.
+
+// Where a stop line goes. Given points come beside it, in a slice of coordinates.
+pub enum Placement {
+    // this far before the end of the first lane
+    AtLaneEnd(f64),
+    // at this station of the first lane
+    AtStation(f64),
+    Given,
+}
