@@ -32,7 +32,8 @@ use Rattle.edit.specs.Edit.{Outcome}
 use Rattle.edit.specs.StopLine.{addStopLine, open-stop-line}
 use Rattle.edit.specs.Light.{NewTrafficSignal, addTrafficSignal, open-light}
 use Rattle.edit.specs.Links.{setRegulatoryLinks, open-links}
-use Rattle.edit.proofs.Crossings.{freshMap, start, after, vehicleLight, p1, p2}
+use Rattle.place.proofs.Worked.{freshMap}
+use Rattle.edit.proofs.Crossings.{start, after, vehicleLight, p1, p2}
 
 -- a refusal's number and details, or the change set file
 abbrev setOf : Answer Outcome → Bytes

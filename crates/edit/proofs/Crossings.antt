@@ -27,6 +27,7 @@ use Rattle.changes.specs.Running.{State, opening}
 use Rattle.place.specs.declared.Placement.the-variants.{AtLaneEnd}
 use Rattle.edit.specs.declared.StopRule.the-variants.{StopSign}
 use Rattle.edit.specs.declared.StopLineChoice.the-variants.{Automatic}
+use Rattle.place.proofs.Worked.{freshMap}
 use Rattle.edit.specs.Edit.{Outcome}
 use Rattle.edit.specs.StopLine.{NewStopLine, addStopLine, open-stop-line}
 use Rattle.edit.specs.Light.{NewTrafficSignal, addTrafficSignal, open-light}
@@ -74,21 +75,7 @@ written (edited n ls ss rs c) = 5 ∷ n ∷ list 64 lineString .write ls ++ list
 abbrev pub holdsIn : Row → Bool
 holdsIn r = sameList (written (r .is)) (written (r .should))
 
--- ---- the map of the crossings
-
--- lane 3, left boundary 1 at y and right boundary 2 at -y, from x = 0 to x = 10, next number 4
-abbrev pub freshMap : Float → Map
-freshMap y =
-    record {
-      next = 4;
-      lanes = record { num = 3; kind = 0; left = record { boundary = 1; reversed = false }; right = record { boundary = 2; reversed = false }; centerline = none } ∷ [];
-      boundaries = record { num = 1; geometry = at3 f0 y f0 ∷ at3 (whole 10) y f0 ∷ [] }
-          ∷ record { num = 2; geometry = at3 f0 (neg y) f0 ∷ at3 (whole 10) (neg y) f0 ∷ [] } ∷ [];
-      stopLines = [];
-      signals = [];
-      crosswalks = [];
-      rules = [];
-    }
+-- ---- the map of the crossings, and the calls
 
 abbrev pub start : State
 start = opening (freshMap (whole 2))

@@ -1,0 +1,2 @@
+pub mod Worked
+mod Cases
