@@ -3,5 +3,6 @@ fn main() {
     let here = std::env::var("CARGO_MANIFEST_DIR").unwrap();
     println!("cargo:rustc-link-search=native={here}/../target/staticlib");
     println!("cargo:rustc-link-lib=static=root");
+    println!("cargo:rustc-link-lib=static=geometry_export");
     println!("cargo:rerun-if-changed=../target/staticlib");
 }

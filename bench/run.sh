@@ -1,9 +1,10 @@
 #!/bin/sh
 # run.sh DRIVER [arguments]: builds the proved static libraries and the drivers, and runs one of them.
-# Drivers: roots (patterns of all classes against the machine's root).
+# Drivers: roots (patterns of all classes against the machine's root), geometry (random polylines against the Rust),
+# requests (random requests with the Rust's answers, for target/bin/geometry_replay FILE).
 set -eu
 cd "$(dirname "$0")/.."
-for crate in root; do
+for crate in root geometry_export; do
     rt staticlib "$crate" >/dev/null
 done
 cd bench

@@ -116,7 +116,7 @@ fn part(file: i32, t: Tally) -> Tally {
     replay(&buf[..n], t)
 }
 
-// Enough parts for four million bytes. Past the end a part is empty.
+// Enough parts for a file of 2 ^ 30 bytes. Past the end a part is empty.
 fn parts(file: i32) -> Tally {
     let mut t = Tally {
         met: 0,
@@ -124,7 +124,7 @@ fn parts(file: i32) -> Tally {
         others: 0,
         used: 0,
     };
-    let mut left = 64u64;
+    let mut left = 16384u64;
     while left > 0 {
         t = part(file, t);
         left -= 1;

@@ -1,24 +1,21 @@
 -- Polylines: what the definitions say of a slice of coordinates, and one step of each loop.
-use Prim.Native.Nat.{ℕ, zero, suc, _+_, _-_, _*_, _/_, _<_, _≤_, min}
-use mathlib.Core.Path.{_≡_, refl, sym, ap, _∙_, subst}
-use mathlib.Core.Bool.{Bool, true, false, _&&_, cond}
-use mathlib.Core.List.{List, [], _∷_, _++_}
+use Prim.Native.Nat.{ℕ, suc, _+_, _-_, _/_, _<_, _≤_, min}
+use mathlib.Core.Path.{_≡_, refl, sym, ap, _∙_}
+use mathlib.Core.Bool.{true, false, _&&_, cond}
+use mathlib.Core.List.{List, [], _∷_}
 use mathlib.Core.Option.{Option, none, some}
 use native.Mathlib.Omega.{arith}
 use native.Mathlib.Numerals.{add-one}
-use lib.Dec.{T}
-use lib.ListN.{length, getD}
+use lib.ListN.{length}
 use lib.Ieee.{Float, le, lt}
 use borrow.Author.Tests.{lt-ltb, le-ltb}
-use Rattle.rows.specs.Lists.{orDefault, listTo, firstFrom, firstBelow}
+use Rattle.rows.specs.Lists.{orDefault, firstFrom, firstBelow}
 use Rattle.geometry.specs.declared.Point2.{Point2}
 use Rattle.geometry.specs.declared.Point3.{Point3}
 use Rattle.geometry.specs.declared.Location.{Location}
-use Rattle.geometry.specs.declared.NearestPoint.{NearestPoint}
 use Rattle.geometry.specs.Double.{_⊕_, _⊖_, _⊗_, _⊘_, f0, f1, epsilon, clamp}
 use Rattle.geometry.specs.Point.{origin, xy, lerp, distance2, projectOnSegment}
 use Rattle.geometry.specs.Polyline.{Polyline, pointIn, polylineOf, pt, segmentLength, lengthTo, polylineLength, isValid, location, reach, locate, pointOf, pointAt, segmentDirection, directionFrom, directionAt, lateralOf, nearestOn, nearer, nearestTo, nearestPoint}
-use Rattle.polyline.specs.Nearest.{replaces}
 use Rattle.polyline.proofs.Lists.{length-listTo, getD-listTo, first-here, first-past, first-end}
 
 -- ---- a slice of coordinates
@@ -198,19 +195,44 @@ module _ (xs : Polyline) (p : Point2) (i : ℕ) where
     unfolding nearestOn
     nearest-on acc seg side w o ea es eo ew e = rw (e, eo, ew, ea, es, f .away, f .there, f .along)
 
-  pub nearest-next : (o r : Option NearestPoint) → o ≡ nearestTo xs p i → r ≡ some (nearer o (nearestOn xs p i)) → r ≡ nearestTo xs p (i + 1)
-  unfolding nearestTo
-  nearest-next o r e f = rw (add-one i, ← e) f
+-- the best of the first i segments is the one at `at`, which starts at the station `start`
+pub record Best (xs : Polyline) (p : Point2) (best : Float) (at : ℕ) (start acc : Float) (i : ℕ) : Type 0 where
+  pub place : at < i
+  pub sum : acc ≡ lengthTo xs i
+  pub begins : start ≡ lengthTo xs at
+  pub away : best ≡ nearestOn xs p at .distance
+  pub winner : nearestTo xs p i ≡ some (nearestOn xs p at)
 
-pub nearer-is : (o : Option NearestPoint) (c : NearestPoint) → replaces o (c .distance) ≡ true → nearer o c ≡ c
-unfolding nearer
-nearer-is none c t = refl
-nearer-is (some b) c t = rw t
+module _ (xs : Polyline) (p : Point2) where
+  pub best-start : (best acc : Float) → best ≡ nearestOn xs p 0 .distance → acc ≡ segmentLength xs 0 → Best xs p best 0 f0 (f0 ⊕ acc) 1
+  unfolding lengthTo nearestTo nearer
+  best-start best acc e f = record { place = omega arith; sum = rw f; begins = refl; away = e; winner = refl }
 
-pub nearer-was : (o : Option NearestPoint) (c : NearestPoint) → replaces o (c .distance) ≡ false → o ≡ some (nearer o c)
-unfolding nearer
-nearer-was none c t = absurd (subst T t tt)
-nearer-was (some b) c t = rw t
+  module _ (best : Float) (at : ℕ) (start acc : Float) (i : ℕ) (r : Best xs p best at start acc i) (d seg : Float) (ed : d ≡ nearestOn xs p i .distance) (es : seg ≡ segmentLength xs i) where
+    best-sum : acc ⊕ seg ≡ lengthTo xs (i + 1)
+    best-sum = rw (length-next xs i, r .sum, es)
+
+    pub best-taken : lt d (best ⊖ epsilon) ≡ true → Best xs p d i acc (acc ⊕ seg) (i + 1)
+    unfolding nearestTo nearer
+    best-taken t =
+        record {
+          place = omega arith;
+          sum = best-sum;
+          begins = r .sum;
+          away = ed;
+          winner = rw (add-one i, r .winner, ← r .away, ← ed, t);
+        }
+
+    pub best-kept : lt d (best ⊖ epsilon) ≡ false → Best xs p best at start (acc ⊕ seg) (i + 1)
+    unfolding nearestTo nearer
+    best-kept t =
+        record {
+          place = let h = r .place in omega arith;
+          sum = best-sum;
+          begins = r .begins;
+          away = r .away;
+          winner = rw (add-one i, r .winner, ← r .away, ← ed, t);
+        }
 
 pub nearest-many : (xs : Polyline) (p : Point2) → 1 < length xs → nearestTo xs p (length xs - 1) ≡ nearestPoint xs p
 unfolding nearestPoint

@@ -17,10 +17,8 @@ ghost use mathlib.Core.Path.{_≡_};
 ghost use mathlib.Core.Option.{some};
 ghost use Prim.Native.Nat.{_+_, _/_, _<_};
 ghost use lib.ListN.{length};
-ghost use lib.Ieee.{Float};
-ghost use Rattle.geometry.specs.Polyline.{polylineOf, segmentLength, lengthTo, lateralOf, nearestOn, nearer, nearestTo, nearestPoint};
+ghost use Rattle.geometry.specs.Polyline.{polylineOf, lengthTo, lateralOf, nearestOn, nearestPoint};
 ghost use Rattle.geometry.specs.Maybe.{maybePoint2, maybeNearest};
-ghost use Rattle.polyline.specs.Nearest.{replaces};
 
 // How far to the left of a direction p lies, seen from q.
 fn lateral_of(u: MaybePoint2, p: Point2, q: Point2) -> f64
@@ -32,55 +30,62 @@ fn lateral_of(u: MaybePoint2, p: Point2, q: Point2) -> f64
     }
 }
 
-// A distance replaces the best only where it is nearer by more than 1e-9.
-fn replaces(best: MaybeNearest, d: f64) -> bool
-    ensures { λ r. ⌜ r ≡ replaces (maybeNearest best) d ⌝ }
+// How far p is from segment i, in the plane.
+fn segment_distance(cs: &[f64], p: Point2, i: usize) -> f64
+    requires { ⌜ i + 1 < length (now cs) / 3 ⌝ }
+    ensures { λ r. ⌜ r ≡ nearestOn (polylineOf (now (cs .entry))) p i .distance ⌝ }
 {
-    match best {
-        MaybeNearest::At(b) => d < b.distance - EPSILON,
-        MaybeNearest::Nothing => true,
-    }
+    let a = point(cs, i);
+    let b = point(cs, i + 1);
+    let t = project_on_segment(p, flat(a), flat(b));
+    let q = lerp(a, b, t);
+    distance2(flat(q), p)
 }
 
-// The better of the best so far and segment i's nearest point. The segment starts at the station acc
-// and is seg long. Its direction is worked out only where it is wanted.
-fn nearer(cs: &[f64], p: Point2, best: MaybeNearest, i: usize, acc: f64, seg: f64) -> MaybeNearest
-    requires { ⌜ (i + 1 < length (now cs) / 3) × (acc ≡ lengthTo (polylineOf (now cs)) i) × (seg ≡ segmentLength (polylineOf (now cs)) i) ⌝ }
-    ensures { λ r. ⌜ maybeNearest r ≡ some (nearer (maybeNearest best) (nearestOn (polylineOf (now (cs .entry))) p i)) ⌝ }
+// The point of segment i that is nearest to p. The segment starts at the station acc.
+fn nearest_on(cs: &[f64], p: Point2, i: usize, acc: f64) -> NearestPoint
+    requires { ⌜ (i + 1 < length (now cs) / 3) × (acc ≡ lengthTo (polylineOf (now cs)) i) ⌝ }
+    ensures { λ r. ⌜ r ≡ nearestOn (polylineOf (now (cs .entry))) p i ⌝ }
 {
     let a = point(cs, i);
     let b = point(cs, i + 1);
     let t = project_on_segment(p, flat(a), flat(b));
     let q = lerp(a, b, t);
     let d = distance2(flat(q), p);
-    if replaces(best, d) {
-        return MaybeNearest::At(NearestPoint {
-            point: q,
-            distance: d,
-            station: acc + t * seg,
-            segment: i as u64,
-            lateral: lateral_of(segment_direction(cs, i), p, flat(q)),
-        });
+    let seg = segment_length(cs, i);
+    NearestPoint {
+        point: q,
+        distance: d,
+        station: acc + t * seg,
+        segment: i as u64,
+        lateral: lateral_of(segment_direction(cs, i), p, flat(q)),
     }
-    best
 }
 
-// The best of all segments.
-fn nearest_of_segments(cs: &[f64], p: Point2) -> MaybeNearest
+// The best of all segments: a later one is taken only where it is nearer by more than 1e-9. All but its
+// place and distance is worked out once, at the end.
+fn nearest_of_segments(cs: &[f64], p: Point2) -> NearestPoint
     requires { ⌜ 1 < length (now cs) / 3 ⌝ }
-    ensures { λ r. ⌜ maybeNearest r ≡ nearestPoint (polylineOf (now (cs .entry))) p ⌝ }
+    ensures { λ r. ⌜ some r ≡ nearestPoint (polylineOf (now (cs .entry))) p ⌝ }
 {
-    let n = cs.len() / 3;
-    let mut best = MaybeNearest::Nothing;
-    let mut acc = 0.0;
-    let mut i = 0;
-    while i + 1 < n {
+    let last = cs.len() / 3 - 1;
+    let mut best = segment_distance(cs, p, 0);
+    let mut at = 0;
+    let mut start = 0.0;
+    let mut acc = 0.0 + segment_length(cs, 0);
+    let mut i = 1;
+    while i < last {
+        let d = segment_distance(cs, p, i);
         let seg = segment_length(cs, i);
-        best = nearer(cs, p, best, i, acc, seg);
+        if d < best - EPSILON {
+            best = d;
+            at = i;
+            start = acc;
+        }
         acc = acc + seg;
         i += 1;
     }
-    best
+    nearest_on(cs, p, at, start)
 }
 
 pub fn nearest_point(cs: &[f64], p: Point2) -> MaybeNearest
@@ -100,5 +105,5 @@ pub fn nearest_point(cs: &[f64], p: Point2) -> MaybeNearest
             lateral: 0.0,
         });
     }
-    nearest_of_segments(cs, p)
+    MaybeNearest::At(nearest_of_segments(cs, p))
 }

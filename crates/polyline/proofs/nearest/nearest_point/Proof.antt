@@ -1,8 +1,8 @@
 -- `polyline::nearest::nearest_point` meets its contract, by how many points there are. Assumes nothing.
+use Rattle.polyline.proofs.Lines.{length-points, nearest-none, nearest-one}
 use Rattle.geometry.specs.Point.{distance2}
 use Rattle.geometry.specs.declared.Point2.{Point2}
 use mathlib.Core.Path.{ap, _∙_}
-use Rattle.polyline.proofs.Lines.{length-points, nearest-none, nearest-one}
 use borrow.Author.Needs.{needs}
 use Rattle.polyline.proofs.nearest.nearest_point.Statement.{statement}
 use Rattle.polyline.proofs.nearest.nearest_point.Tie as tie
