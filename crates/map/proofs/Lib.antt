@@ -3,3 +3,4 @@ pub mod ByKind
 pub mod Presence
 pub mod ReadLaws
 pub mod UpdateLaws
+pub mod SoundLaws
