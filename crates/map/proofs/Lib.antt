@@ -4,3 +4,4 @@ pub mod Presence
 pub mod ReadLaws
 pub mod UpdateLaws
 pub mod SoundLaws
+pub mod ReplaceLaws
