@@ -630,3 +630,70 @@ module _ (r : List ℕ) (long : length r ≡ 92) (xs : List ℕ) (short : length
         list-before r long 24 xs (omega arith) 7 (omega arith) (omega arith),
         list-there r long 24 xs (omega arith),
       )
+
+-- a light with other signals, a crossing with other lines, a light with another line
+module _ (r : List ℕ) (long : length r ≡ 92) (c : List Float) where
+  pub with-signals : (xs : List ℕ) → length xs ≤ 16 → getD r 1 0 ≡ 1 → getD r 7 0 ≤ 16 → getD r 24 0 ≤ 16
+      → ruleIn (withList r 41 xs) c ≡ ruleWith (ruleIn r c) (light xs (cond (flagAt r 3) (some (getD r 4 0)) none)) (ruleIn r c .lanes) (ruleIn r c .controlled)
+  unfolding ruleIn flagAt
+  with-signals xs short k l d =
+      rw (
+        word-stays r long 41 xs (omega arith) 0 (omega arith),
+        word-stays r long 41 xs (omega arith) 1 (omega arith),
+        k,
+        list-there r long 41 xs (omega arith),
+        word-stays r long 41 xs (omega arith) 3 (omega arith),
+        word-stays r long 41 xs (omega arith) 4 (omega arith),
+        list-before r long 41 xs (omega arith) 7 (omega arith) (omega arith),
+        list-before r long 41 xs (omega arith) 24 (omega arith) (omega arith),
+      )
+
+  pub with-lines : (xs : List ℕ) → length xs ≤ 16 → getD r 1 0 ≡ 5 → getD r 7 0 ≤ 16 → getD r 24 0 ≤ 16
+      → ruleIn (withList r 75 xs) c ≡ ruleWith (ruleIn r c) (crossing (getD r 2 0) xs) (ruleIn r c .lanes) (ruleIn r c .controlled)
+  unfolding ruleIn
+  with-lines xs short k l d =
+      rw (
+        word-stays r long 75 xs (omega arith) 0 (omega arith),
+        word-stays r long 75 xs (omega arith) 1 (omega arith),
+        k,
+        list-there r long 75 xs (omega arith),
+        word-stays r long 75 xs (omega arith) 2 (omega arith),
+        list-before r long 75 xs (omega arith) 7 (omega arith) (omega arith),
+        list-before r long 75 xs (omega arith) 24 (omega arith) (omega arith),
+      )
+
+  module _ (flag line : ℕ) where
+    line-before : (j : ℕ) → j < 3 → getD (withRuleLine r flag line) j 0 ≡ getD r j 0
+    unfolding withRuleLine
+    line-before j h = getD-before r 3 (flag ∷ line ∷ []) 2 j 0 h (omega arith)
+
+    line-past : (j : ℕ) → 5 ≤ j → getD (withRuleLine r flag line) j 0 ≡ getD r j 0
+    unfolding withRuleLine
+    line-past j h = getD-past r 3 (flag ∷ line ∷ []) 2 j 0 h (omega arith) (omega arith)
+
+    line-flag : getD (withRuleLine r flag line) 3 0 ≡ flag
+    unfolding withRuleLine
+    line-flag = getD-in r 3 (flag ∷ line ∷ []) 2 0 0 (omega arith) (omega arith) (omega arith)
+
+    line-number : getD (withRuleLine r flag line) 4 0 ≡ line
+    unfolding withRuleLine
+    line-number = getD-in r 3 (flag ∷ line ∷ []) 2 1 0 (omega arith) (omega arith) (omega arith)
+
+    line-list : (p : ℕ) → 5 ≤ p → listAt (withRuleLine r flag line) p ≡ listAt r p
+    unfolding listAt
+    line-list p h = rw (line-past p h) (listTo-same _ _ (getD r p 0) (λ i g. line-past (p + 1 + i) (omega arith)))
+
+    pub with-line : getD r 1 0 ≡ 1
+        → ruleIn (withRuleLine r flag line) c ≡ ruleWith (ruleIn r c) (light (listAt r 41) (cond (not (eqb flag 0)) (some line) none)) (ruleIn r c .lanes) (ruleIn r c .controlled)
+    unfolding ruleIn flagAt
+    with-line k =
+        rw (
+          line-before 0 (omega arith),
+          line-before 1 (omega arith),
+          k,
+          line-list 41 (omega arith),
+          line-flag,
+          line-number,
+          line-list 7 (omega arith),
+          line-list 24 (omega arith),
+        )
