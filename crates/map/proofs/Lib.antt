@@ -3,3 +3,5 @@ pub mod ByKind
 pub mod Presence
 pub mod ReadLaws
 pub mod UpdateLaws
+pub mod SoundLaws
+pub mod ReplaceLaws

@@ -12,7 +12,7 @@ use lib.Ieee.{Float, nan}
 use lib.ListN.{length, getD, take, drop}
 use Rattle.geometry.specs.declared.Point3.{Point3}
 use Rattle.geometry.specs.Point.{at3}
-use Rattle.geometry.specs.Polyline.{Polyline, pointIn, polylineOf}
+use Rattle.geometry.specs.Polyline.{Polyline, pointIn, polylineOf, reversed}
 use Rattle.rows.specs.Lists.{listTo}
 use Rattle.rows.specs.Table.{find, holds}
 use Rattle.rows.specs.Rows.{cut, numbersAt, indexOf}
@@ -28,6 +28,7 @@ use Rattle.map.specs.declared.RuleHead.{RuleHead}
 use Rattle.map.specs.declared.Entries.{Entries}
 use Rattle.map.specs.Record.{BoundaryRef, Lane, LineString, Signal, Crosswalk, Rule, Map}
 use Rattle.map.specs.Entity.{EntityRef, entity, has}
+use Rattle.map.specs.Lookup.{laneOf, boundaryOf, lineOf, signalOf, ruleOf, oriented}
 use Rattle.map.specs.Tables.{flagAt, listAt, pointFrom, lineAt, laneIn, lineStringIn, signalIn, crosswalkIn, ruleIn, mapOf}
 use Rattle.map.specs.Access.{indexIn, lookup, laneOfRow, LaneRead, HasRead, HeadRead, ListRead}
 
@@ -285,3 +286,66 @@ pub has-none : (ws : List ℕ) (x kind : ℕ) → (kind ≡ 1 → ⊥) → (kind
 unfolding has
 has-none ws x kind a b c d e f =
     record { answer = λ cs. rw (ne-eqb kind 1 a, ne-eqb kind 2 b, ne-eqb kind 5 c, ne-eqb kind 6 d, ne-eqb kind 7 e, ne-eqb kind 8 f) }
+
+-- ---- the definition's look-ups
+
+module _ (ws : List ℕ) (cs : List Float) (x i : ℕ) where
+  pub lane-found : lookup ws 0 x ≡ At i → laneOf (mapOf ws cs) x ≡ some (laneIn (rowOf ws 0 i) (coordsOf cs 0 i))
+  unfolding laneOf mapOf
+  lane-found e = found-record (λ r. r .num) laneIn lane-number ws cs 0 (omega arith) x i e
+
+  pub boundary-found : lookup ws 1 x ≡ At i → boundaryOf (mapOf ws cs) x ≡ some (lineStringIn (rowOf ws 1 i) (coordsOf cs 1 i))
+  unfolding boundaryOf mapOf
+  boundary-found e = found-record (λ r. r .num) lineStringIn line-number ws cs 1 (omega arith) x i e
+
+  pub line-found : lookup ws 2 x ≡ At i → lineOf (mapOf ws cs) x ≡ some (lineStringIn (rowOf ws 2 i) (coordsOf cs 2 i))
+  unfolding lineOf mapOf
+  line-found e = found-record (λ r. r .num) lineStringIn line-number ws cs 2 (omega arith) x i e
+
+  pub signal-found : lookup ws 3 x ≡ At i → signalOf (mapOf ws cs) x ≡ some (signalIn (rowOf ws 3 i) (coordsOf cs 3 i))
+  unfolding signalOf mapOf
+  signal-found e = found-record (λ r. r .num) signalIn signal-number ws cs 3 (omega arith) x i e
+
+  pub rule-found : lookup ws 5 x ≡ At i → ruleOf (mapOf ws cs) x ≡ some (ruleIn (rowOf ws 5 i) (coordsOf cs 5 i))
+  unfolding ruleOf mapOf
+  rule-found e = found-record (λ r. r .num) ruleIn rule-number ws cs 5 (omega arith) x i e
+
+module _ (ws : List ℕ) (cs : List Float) (x : ℕ) where
+  pub no-lane : lookup ws 0 x ≡ Nothing → laneOf (mapOf ws cs) x ≡ none
+  unfolding laneOf mapOf
+  no-lane e = none-record (λ r. r .num) laneIn lane-number ws cs 0 (omega arith) x e
+
+  pub no-boundary : lookup ws 1 x ≡ Nothing → boundaryOf (mapOf ws cs) x ≡ none
+  unfolding boundaryOf mapOf
+  no-boundary e = none-record (λ r. r .num) lineStringIn line-number ws cs 1 (omega arith) x e
+
+  pub no-line : lookup ws 2 x ≡ Nothing → lineOf (mapOf ws cs) x ≡ none
+  unfolding lineOf mapOf
+  no-line e = none-record (λ r. r .num) lineStringIn line-number ws cs 2 (omega arith) x e
+
+  pub no-signal : lookup ws 3 x ≡ Nothing → signalOf (mapOf ws cs) x ≡ none
+  unfolding signalOf mapOf
+  no-signal e = none-record (λ r. r .num) signalIn signal-number ws cs 3 (omega arith) x e
+
+  pub no-rule : lookup ws 5 x ≡ Nothing → ruleOf (mapOf ws cs) x ≡ none
+  unfolding ruleOf mapOf
+  no-rule e = none-record (λ r. r .num) ruleIn rule-number ws cs 5 (omega arith) x e
+
+-- a lane's side, along the lane: the found boundary's points and the side's flag
+along : BoundaryRef → Option LineString → Option Polyline
+along s none = none
+along s (some b) = some (cond (s .reversed) (reversed (b .geometry)) (b .geometry))
+
+oriented-is : (m : Map) (s : BoundaryRef) (o : Option LineString) → boundaryOf m (s .boundary) ≡ o → oriented m s ≡ along s o
+unfolding oriented along
+oriented-is m s none e = ap (λ (o : Option LineString). elim o [ none ↦ none | some b ↦ some (cond (s .reversed) (reversed (b .geometry)) (b .geometry)) ]) e
+oriented-is m s (some b) e = ap (λ (o : Option LineString). elim o [ none ↦ none | some b ↦ some (cond (s .reversed) (reversed (b .geometry)) (b .geometry)) ]) e
+
+pub side-found : (ws : List ℕ) (cs : List Float) (s : BoundaryRef) (i : ℕ) → lookup ws 1 (s .boundary) ≡ At i
+    → oriented (mapOf ws cs) s ≡ some (cond (s .reversed) (reversed (lineAt (coordsOf cs 1 i) 0 (getD (rowOf ws 1 i) 1 0))) (lineAt (coordsOf cs 1 i) 0 (getD (rowOf ws 1 i) 1 0)))
+unfolding along lineStringIn
+side-found ws cs s i e = oriented-is (mapOf ws cs) s (some (lineStringIn (rowOf ws 1 i) (coordsOf cs 1 i))) (boundary-found ws cs (s .boundary) i e)
+
+pub no-side : (ws : List ℕ) (cs : List Float) (s : BoundaryRef) → lookup ws 1 (s .boundary) ≡ Nothing → oriented (mapOf ws cs) s ≡ none
+unfolding along
+no-side ws cs s e = oriented-is (mapOf ws cs) s none (no-boundary ws cs (s .boundary) e)

@@ -1,6 +1,6 @@
 -- Row edits against the definitions, over plain lists and numbers. Assumes nothing.
 use Prim.Native.Nat.{ℕ, zero, suc, _+_, _-_, _*_, _/_, _≤_, _<_, max}
-use mathlib.Core.Path.{_≡_, refl, sym, ap, _∙_}
+use mathlib.Core.Path.{_≡_, refl, sym, ap, _∙_, subst}
 use mathlib.Core.Bool.{Bool, true, false, not, cond}
 use mathlib.Core.Option.{Option, none, some}
 use mathlib.Core.List.{List, [], _∷_, _++_}
@@ -528,3 +528,172 @@ pub rule-pushed-is : (d lanes signals one two ws ws₁ ws₂ : List ℕ) → len
     → SizedWords ws → countOf ws 5 < 128 → num ≡ max 1 (nextOf ws) → kind ≤ 3 → 0 < kind → RulePushed ws (newBody kind value flag line signals) lanes ws₂
 rule-pushed-is d lanes signals one two ws ws₁ ws₂ long few less a b e num kind value flag line f e0 e1 e2 e3 e4 e5 e7 e24 e41 ok room eu h g =
     rw (f, e, b, a) (rule-pushed d lanes signals long few less num kind value flag line e0 e1 e2 e3 e4 e5 e7 e24 e41 ws ok room eu h g)
+
+-- ---- what a changed row says: for who puts a rule's lists or line
+
+module _ (r : List ℕ) (long : length r ≡ 92) (o : ℕ) (xs : List ℕ) (fits : o + 1 + length xs ≤ 92) where
+  entries : length xs ≤ length xs
+  entries = le-refl _
+
+  before-list : (j : ℕ) → j < o → getD (withList r o xs) j 0 ≡ getD r j 0
+  unfolding withList
+  before-list j h = getD-before r o (length xs ∷ xs) (suc (length xs)) j 0 h (omega arith)
+
+  past-list : (j : ℕ) → o + 1 + length xs ≤ j → getD (withList r o xs) j 0 ≡ getD r j 0
+  unfolding withList
+  past-list j h = getD-past r o (length xs ∷ xs) (suc (length xs)) j 0 (omega arith) (omega arith) (omega arith)
+
+  its-count : getD (withList r o xs) o 0 ≡ length xs
+  unfolding withList
+  its-count = subst (λ (p : ℕ). getD (pasted r o (length xs ∷ xs) (suc (length xs))) p 0 ≡ length xs) (add-zero o)
+      (getD-in r o (length xs ∷ xs) (suc (length xs)) 0 0 (omega arith) (omega arith) (omega arith))
+
+  its-entry : (i : ℕ) → i < length xs → getD (withList r o xs) (o + 1 + i) 0 ≡ getD xs i 0
+  unfolding withList
+  its-entry i h =
+      let e : o + 1 + i ≡ o + suc i = omega arith in
+      rw e (getD-in r o (length xs ∷ xs) (suc (length xs)) (suc i) 0 (omega arith) (omega arith) (omega arith))
+
+  pub list-there : listAt (withList r o xs) o ≡ xs
+  list-there = list-is (withList r o xs) o xs its-count its-entry
+
+  -- a list that lies past it, and one that lies before it
+  pub list-past : (p : ℕ) → o + 1 + length xs ≤ p → listAt (withList r o xs) p ≡ listAt r p
+  unfolding listAt
+  list-past p h = rw (past-list p h) (listTo-same _ _ (getD r p 0) (λ i g. past-list (p + 1 + i) (omega arith)))
+
+  pub list-before : (p : ℕ) → p + 1 + getD r p 0 ≤ o → p < o → listAt (withList r o xs) p ≡ listAt r p
+  unfolding listAt
+  list-before p h g = rw (before-list p g) (listTo-same _ _ (getD r p 0) (λ i k. before-list (p + 1 + i) (omega arith)))
+
+  pub word-stays : (j : ℕ) → j < o → getD (withList r o xs) j 0 ≡ getD r j 0
+  word-stays = before-list
+
+-- a rule with other lanes, or with other controlled crosswalks, is the definition's
+module _ (r : List ℕ) (long : length r ≡ 92) (xs : List ℕ) (short : length xs ≤ 16) where
+  lanes-body : (k : ℕ) (c : List Float) → bodyOf k (withList r 7 xs) c ≡ bodyOf k r c
+  unfolding flagAt
+  lanes-body zero c = refl
+  lanes-body (suc zero) c = rw (list-past r long 7 xs (omega arith) 41 (omega arith), word-stays r long 7 xs (omega arith) 3 (omega arith), word-stays r long 7 xs (omega arith) 4 (omega arith))
+  lanes-body (suc (suc zero)) c =
+      rw (
+        word-stays r long 7 xs (omega arith) 2 (omega arith),
+        word-stays r long 7 xs (omega arith) 5 (omega arith),
+        word-stays r long 7 xs (omega arith) 6 (omega arith),
+        word-stays r long 7 xs (omega arith) 3 (omega arith),
+        word-stays r long 7 xs (omega arith) 4 (omega arith),
+      )
+  lanes-body (suc (suc (suc zero))) c = rw (word-stays r long 7 xs (omega arith) 4 (omega arith))
+  lanes-body (suc (suc (suc (suc zero)))) c =
+      rw (list-past r long 7 xs (omega arith) 41 (omega arith), list-past r long 7 xs (omega arith) 58 (omega arith), list-past r long 7 xs (omega arith) 75 (omega arith))
+  lanes-body (suc (suc (suc (suc (suc zero))))) c = rw (word-stays r long 7 xs (omega arith) 2 (omega arith), list-past r long 7 xs (omega arith) 75 (omega arith))
+  lanes-body (suc (suc (suc (suc (suc (suc zero)))))) c = rw (word-stays r long 7 xs (omega arith) 2 (omega arith))
+  lanes-body (suc (suc (suc (suc (suc (suc (suc k))))))) c = refl
+
+  pub with-lanes : (c : List Float) → ruleIn (withList r 7 xs) c ≡ ruleWith (ruleIn r c) (ruleIn r c .body) xs (ruleIn r c .controlled)
+  unfolding ruleIn
+  with-lanes c =
+      rw (
+        word-stays r long 7 xs (omega arith) 0 (omega arith),
+        word-stays r long 7 xs (omega arith) 1 (omega arith),
+        lanes-body (getD r 1 0) c,
+        list-there r long 7 xs (omega arith),
+        list-past r long 7 xs (omega arith) 24 (omega arith),
+      )
+
+  controlled-body : (k : ℕ) (c : List Float) → bodyOf k (withList r 24 xs) c ≡ bodyOf k r c
+  unfolding flagAt
+  controlled-body zero c = refl
+  controlled-body (suc zero) c = rw (list-past r long 24 xs (omega arith) 41 (omega arith), word-stays r long 24 xs (omega arith) 3 (omega arith), word-stays r long 24 xs (omega arith) 4 (omega arith))
+  controlled-body (suc (suc zero)) c =
+      rw (
+        word-stays r long 24 xs (omega arith) 2 (omega arith),
+        word-stays r long 24 xs (omega arith) 5 (omega arith),
+        word-stays r long 24 xs (omega arith) 6 (omega arith),
+        word-stays r long 24 xs (omega arith) 3 (omega arith),
+        word-stays r long 24 xs (omega arith) 4 (omega arith),
+      )
+  controlled-body (suc (suc (suc zero))) c = rw (word-stays r long 24 xs (omega arith) 4 (omega arith))
+  controlled-body (suc (suc (suc (suc zero)))) c =
+      rw (list-past r long 24 xs (omega arith) 41 (omega arith), list-past r long 24 xs (omega arith) 58 (omega arith), list-past r long 24 xs (omega arith) 75 (omega arith))
+  controlled-body (suc (suc (suc (suc (suc zero))))) c = rw (word-stays r long 24 xs (omega arith) 2 (omega arith), list-past r long 24 xs (omega arith) 75 (omega arith))
+  controlled-body (suc (suc (suc (suc (suc (suc zero)))))) c = rw (word-stays r long 24 xs (omega arith) 2 (omega arith))
+  controlled-body (suc (suc (suc (suc (suc (suc (suc k))))))) c = refl
+
+  pub with-controlled : (c : List Float) → getD r 7 0 ≤ 16 → ruleIn (withList r 24 xs) c ≡ ruleWith (ruleIn r c) (ruleIn r c .body) (ruleIn r c .lanes) xs
+  unfolding ruleIn
+  with-controlled c h =
+      rw (
+        word-stays r long 24 xs (omega arith) 0 (omega arith),
+        word-stays r long 24 xs (omega arith) 1 (omega arith),
+        controlled-body (getD r 1 0) c,
+        list-before r long 24 xs (omega arith) 7 (omega arith) (omega arith),
+        list-there r long 24 xs (omega arith),
+      )
+
+-- a light with other signals, a crossing with other lines, a light with another line
+module _ (r : List ℕ) (long : length r ≡ 92) (c : List Float) where
+  pub with-signals : (xs : List ℕ) → length xs ≤ 16 → getD r 1 0 ≡ 1 → getD r 7 0 ≤ 16 → getD r 24 0 ≤ 16
+      → ruleIn (withList r 41 xs) c ≡ ruleWith (ruleIn r c) (light xs (cond (flagAt r 3) (some (getD r 4 0)) none)) (ruleIn r c .lanes) (ruleIn r c .controlled)
+  unfolding ruleIn flagAt
+  with-signals xs short k l d =
+      rw (
+        word-stays r long 41 xs (omega arith) 0 (omega arith),
+        word-stays r long 41 xs (omega arith) 1 (omega arith),
+        k,
+        list-there r long 41 xs (omega arith),
+        word-stays r long 41 xs (omega arith) 3 (omega arith),
+        word-stays r long 41 xs (omega arith) 4 (omega arith),
+        list-before r long 41 xs (omega arith) 7 (omega arith) (omega arith),
+        list-before r long 41 xs (omega arith) 24 (omega arith) (omega arith),
+      )
+
+  pub with-lines : (xs : List ℕ) → length xs ≤ 16 → getD r 1 0 ≡ 5 → getD r 7 0 ≤ 16 → getD r 24 0 ≤ 16
+      → ruleIn (withList r 75 xs) c ≡ ruleWith (ruleIn r c) (crossing (getD r 2 0) xs) (ruleIn r c .lanes) (ruleIn r c .controlled)
+  unfolding ruleIn
+  with-lines xs short k l d =
+      rw (
+        word-stays r long 75 xs (omega arith) 0 (omega arith),
+        word-stays r long 75 xs (omega arith) 1 (omega arith),
+        k,
+        list-there r long 75 xs (omega arith),
+        word-stays r long 75 xs (omega arith) 2 (omega arith),
+        list-before r long 75 xs (omega arith) 7 (omega arith) (omega arith),
+        list-before r long 75 xs (omega arith) 24 (omega arith) (omega arith),
+      )
+
+  module _ (flag line : ℕ) where
+    line-before : (j : ℕ) → j < 3 → getD (withRuleLine r flag line) j 0 ≡ getD r j 0
+    unfolding withRuleLine
+    line-before j h = getD-before r 3 (flag ∷ line ∷ []) 2 j 0 h (omega arith)
+
+    line-past : (j : ℕ) → 5 ≤ j → getD (withRuleLine r flag line) j 0 ≡ getD r j 0
+    unfolding withRuleLine
+    line-past j h = getD-past r 3 (flag ∷ line ∷ []) 2 j 0 h (omega arith) (omega arith)
+
+    line-flag : getD (withRuleLine r flag line) 3 0 ≡ flag
+    unfolding withRuleLine
+    line-flag = getD-in r 3 (flag ∷ line ∷ []) 2 0 0 (omega arith) (omega arith) (omega arith)
+
+    line-number : getD (withRuleLine r flag line) 4 0 ≡ line
+    unfolding withRuleLine
+    line-number = getD-in r 3 (flag ∷ line ∷ []) 2 1 0 (omega arith) (omega arith) (omega arith)
+
+    line-list : (p : ℕ) → 5 ≤ p → listAt (withRuleLine r flag line) p ≡ listAt r p
+    unfolding listAt
+    line-list p h = rw (line-past p h) (listTo-same _ _ (getD r p 0) (λ i g. line-past (p + 1 + i) (omega arith)))
+
+    pub with-line : getD r 1 0 ≡ 1
+        → ruleIn (withRuleLine r flag line) c ≡ ruleWith (ruleIn r c) (light (listAt r 41) (cond (not (eqb flag 0)) (some line) none)) (ruleIn r c .lanes) (ruleIn r c .controlled)
+    unfolding ruleIn flagAt
+    with-line k =
+        rw (
+          line-before 0 (omega arith),
+          line-before 1 (omega arith),
+          k,
+          line-list 41 (omega arith),
+          line-flag,
+          line-number,
+          line-list 7 (omega arith),
+          line-list 24 (omega arith),
+        )
