@@ -3,9 +3,12 @@ use fields::Place;
 ghost use mathlib.Core.Path.{_≡_};
 ghost use Prim.Native.Nat.{_+_, _≤_, _<_};
 ghost use lib.ListN.{length};
-ghost use Rattle.map.specs.MapFile.{lane, lineString, signal, crosswalk, rule};
+ghost use Rattle.codec.specs.Format.{_⊗_};
+ghost use Rattle.codec.specs.Number.{number};
+ghost use Rattle.codec.specs.Items.{option};
+ghost use Rattle.map.specs.MapFile.{numbers, lane, lineString, signal, crosswalk, rule};
 ghost use Rattle.map.specs.Tables.{laneIn, lineStringIn, signalIn, crosswalkIn, ruleIn};
-ghost use Rattle.records.specs.Records.{RowRead, BodyRead, SideRead};
+ghost use Rattle.records.specs.Records.{RowRead, BodyRead, SideRead, PartRead, SignRead, lightIn, rightOfWayIn, crossingIn};
 
 const LARGEST: u64 = 0xFFFF_FFFF_FFFF_FFFF;
 
@@ -57,4 +60,80 @@ pub fn read_crosswalk(s: &[u8], p: Place, words: &mut [u64], coords: &mut [f64])
     let right = fields::read_line(s, left, words, 1, coords, 0);
     let outline = fields::read_line(s, right, words, 2, coords, 192);
     fields::read_option_line(s, outline, words, 3, coords, 384)
+}
+
+// A light's signals and line.
+fn read_light(s: &[u8], p: Place, words: &mut [u64]) -> Place
+    requires { ⌜ 92 ≤ length (now words) ⌝ }
+    ensures { λ r. ⌜ PartRead (numbers ⊗ option number) lightIn (now (s .entry)) p (now (words .entry)) r (now (words .exit)) ⌝ }
+{
+    let line = fields::read_numbers(s, p, words, 41);
+    fields::read_option_number(s, line, words, 3)
+}
+
+// A sign's type, where it stands, and its line.
+fn read_sign(s: &[u8], p: Place, words: &mut [u64], coords: &mut [f64]) -> Place
+    requires { ⌜ (92 ≤ length (now words)) × (192 ≤ length (now coords)) ⌝ }
+    ensures { λ r. ⌜ SignRead (now (s .entry)) p (now (words .entry)) (now (coords .entry)) r (now (words .exit)) (now (coords .exit)) ⌝ }
+{
+    let shape = fields::read_word(s, p, words, 2, 1, LARGEST);
+    let line = fields::read_option_line(s, shape, words, 5, coords, 0);
+    fields::read_option_number(s, line, words, 3)
+}
+
+// Lanes with priority, lanes that yield, lines.
+fn read_right_of_way(s: &[u8], p: Place, words: &mut [u64]) -> Place
+    requires { ⌜ 92 ≤ length (now words) ⌝ }
+    ensures { λ r. ⌜ PartRead (numbers ⊗ numbers ⊗ numbers) rightOfWayIn (now (s .entry)) p (now (words .entry)) r (now (words .exit)) ⌝ }
+{
+    let yielding = fields::read_numbers(s, p, words, 41);
+    let lines = fields::read_numbers(s, yielding, words, 58);
+    fields::read_numbers(s, lines, words, 75)
+}
+
+// A crosswalk and its lines.
+fn read_crossing(s: &[u8], p: Place, words: &mut [u64]) -> Place
+    requires { ⌜ 92 ≤ length (now words) ⌝ }
+    ensures { λ r. ⌜ PartRead (number ⊗ numbers) crossingIn (now (s .entry)) p (now (words .entry)) r (now (words .exit)) ⌝ }
+{
+    let lines = fields::read_word(s, p, words, 2, 0, LARGEST);
+    fields::read_numbers(s, lines, words, 75)
+}
+
+// A rule's kind, and the fields of that kind.
+fn read_body(s: &[u8], p: Place, words: &mut [u64], coords: &mut [f64]) -> Place
+    requires { ⌜ (92 ≤ length (now words)) × (192 ≤ length (now coords)) ⌝ }
+    ensures { λ r. ⌜ BodyRead (now (s .entry)) p (now (words .entry)) (now (coords .entry)) r (now (words .exit)) (now (coords .exit)) ⌝ }
+{
+    let q = fields::read_word(s, p, words, 1, 0, LARGEST);
+    let kind = words[1];
+    if kind == 1 {
+        return read_light(s, q, words);
+    }
+    if kind == 2 {
+        return read_sign(s, q, words, coords);
+    }
+    if kind == 3 {
+        return fields::read_word(s, q, words, 4, 0, LARGEST);
+    }
+    if kind == 4 {
+        return read_right_of_way(s, q, words);
+    }
+    if kind == 5 {
+        return read_crossing(s, q, words);
+    }
+    if kind == 6 {
+        return fields::read_word(s, q, words, 2, 1, LARGEST);
+    }
+    Place::Fault
+}
+
+pub fn read_rule(s: &[u8], p: Place, words: &mut [u64], coords: &mut [f64]) -> Place
+    requires { ⌜ (92 ≤ length (now words)) × (192 ≤ length (now coords)) ⌝ }
+    ensures { λ r. ⌜ RowRead rule ruleIn (now (s .entry)) p (now (words .entry)) (now (coords .entry)) r (now (words .exit)) (now (coords .exit)) ⌝ }
+{
+    let body = fields::read_word(s, p, words, 0, 0, LARGEST);
+    let lanes = read_body(s, body, words, coords);
+    let controlled = fields::read_numbers(s, lanes, words, 7);
+    fields::read_numbers(s, controlled, words, 24)
 }
