@@ -47,3 +47,19 @@ pub fn load_row(
     let f = c + layout::coord_width(k);
     read_record(s, p, k, &mut words[a..e], &mut coords[c..f])
 }
+
+// A table: its count into its word, its records into its rows. A count past the room is a fault.
+pub fn load_table(s: &[u8], p: Place, k: usize, words: &mut [u64], coords: &mut [f64]) -> Place
+    requires { ⌜ (k < 6) × (length (now words) ≡ allWords) × (length (now coords) ≡ allCoords) ⌝ }
+    ensures { λ r. ⌜ TableLoaded (now (s .entry)) p k (now (words .entry)) (now (coords .entry)) r (now (words .exit)) (now (coords .exit)) ⌝ }
+{
+    let most = layout::limit(k) as u64;
+    let mut q = fields::read_word(s, p, words, 1 + k, 0, most);
+    let n = words[1 + k] as usize;
+    let mut i: usize = 0;
+    while i < n {
+        q = load_row(s, q, k, i, words, coords);
+        i += 1;
+    }
+    q
+}
