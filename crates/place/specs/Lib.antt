@@ -1,1 +1,3 @@
+pub mod Readable
 pub mod Place
+pub mod Values
