@@ -1,1 +1,4 @@
+pub mod Readable
 pub mod Place
+pub mod Values
+pub mod Steps

@@ -1,5 +1,11 @@
 // What the edits read from the map before they store: where a stop line goes, and the checks on the way.
 
+pub mod lines; // lines.rt: a side of a lane, and its centreline
+pub mod section; // section.rt: the cross-section
+
+use geometry::Point3;
+use refusal::Refusal;
+
 // Where a stop line goes. Given points come beside it, in a slice of coordinates.
 pub enum Placement {
     // this far before the end of the first lane
@@ -7,4 +13,50 @@ pub enum Placement {
     // at this station of the first lane
     AtStation(f64),
     Given,
+}
+
+// A line that may be missing: one without points is there all the same.
+pub struct MaybeLine {
+    pub there: bool,
+    pub line: centerline::Line,
+}
+
+// A side of a lane: a boundary's number, and whether it runs against the lane.
+pub struct Side {
+    pub number: u64,
+    pub reversed: bool,
+}
+
+// How far to the left a boundary's nearest point lies, and that point.
+pub struct SectionEnd {
+    pub lateral: f64,
+    pub point: Point3,
+}
+
+pub enum MaybeEnd {
+    At(SectionEnd),
+    Nothing,
+}
+
+// The outermost ends so far.
+pub struct SectionEnds {
+    pub left: MaybeEnd,
+    pub right: MaybeEnd,
+}
+
+// What a walk over sides comes to: the ends, or a boundary that is missing.
+pub enum Walked {
+    Ends(SectionEnds),
+    Missing,
+}
+
+// A cross-section, from left to right.
+pub struct CrossSection {
+    pub left: Point3,
+    pub right: Point3,
+}
+
+pub enum MaybeSection {
+    At(CrossSection),
+    Refused(Refusal),
 }

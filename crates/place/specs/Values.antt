@@ -1,0 +1,67 @@
+-- What the code's values stand for.
+use Prim.Native.Nat.{ℕ, _≤_}
+use mathlib.Core.Path.{_≡_}
+use mathlib.Core.Bool.{Bool, cond}
+use lib.ListN.{length}
+use mathlib.Core.List.{List, [], _∷_}
+use mathlib.Core.Option.{Option, none, some}
+use Rattle.geometry.specs.Polyline.{Polyline}
+use Rattle.centerline.specs.declared.Line.{Line}
+use Rattle.centerline.specs.Line.{pointsOf}
+use Rattle.refusal.specs.Answer.{Answer, refused, done, refusedAs}
+use Rattle.map.specs.Record.{BoundaryRef}
+use Rattle.map.specs.declared.LaneRow.{LaneRow}
+use Rattle.place.specs.declared.MaybeLine.{MaybeLine}
+use Rattle.place.specs.declared.SectionEnd.{SectionEnd}
+use Rattle.place.specs.declared.MaybeEnd.{MaybeEnd}
+use Rattle.place.specs.declared.MaybeEnd.the-variants as e
+use Rattle.place.specs.declared.SectionEnds.{SectionEnds}
+use Rattle.place.specs.declared.Walked.{Walked}
+use Rattle.place.specs.declared.Walked.the-variants as w
+use Rattle.place.specs.declared.CrossSection.{CrossSection}
+use Rattle.place.specs.declared.MaybeSection.{MaybeSection}
+use Rattle.place.specs.declared.MaybeSection.the-variants as s
+use Rattle.place.specs.Place.{End, Ends}
+
+-- ---- lines that may be missing
+
+abbrev pub maybeLine : MaybeLine → Option Polyline
+maybeLine l = cond (l .there) (some (pointsOf (l .line))) none
+
+-- a line within its array
+pub record Roomy (l : Line) : Type 0 where
+  pub few : l .count ≤ 64
+  pub long : length (l .coords) ≡ 192
+
+-- a line that was read, or made
+pub record LineRead (o : Option Polyline) (r : MaybeLine) : Type 0 where
+  pub answer : maybeLine r ≡ o
+  pub room : Roomy (r .line)
+
+-- a side of a lane
+abbrev pub sideOf : ℕ → Bool → BoundaryRef
+sideOf n r = record { boundary = n; reversed = r }
+
+-- the left one, then the right one
+abbrev pub sidesOf : LaneRow → List BoundaryRef
+sidesOf r = sideOf (r .left) (r .«left_reversed») ∷ sideOf (r .right) (r .«right_reversed») ∷ []
+
+-- ---- the cross-section
+
+abbrev pub endOf : SectionEnd → End
+endOf x = record { lateral = x .lateral; point = x .point }
+
+abbrev pub maybeEnd : MaybeEnd → Option End
+maybeEnd (e.At x) = some (endOf x)
+maybeEnd e.Nothing = none
+
+abbrev pub endsOf : SectionEnds → Ends
+endsOf x = record { left = maybeEnd (x .left); right = maybeEnd (x .right) }
+
+abbrev pub walked : Walked → Answer Ends
+walked (w.Ends x) = done (endsOf x)
+walked w.Missing = refused 6 (4 ∷ [])
+
+abbrev pub sectionAnswer : MaybeSection → Answer Polyline
+sectionAnswer (s.At x) = done (x .left ∷ x .right ∷ [])
+sectionAnswer (s.Refused r) = refusedAs r
