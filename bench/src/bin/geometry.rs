@@ -1,6 +1,6 @@
 //! The proved geometry against the Rust's on random polylines, bit for bit, and both timed on the same inputs.
 
-use bench::{Rng, time};
+use bench::{Rng, square_root, time};
 use std::hint::black_box;
 use vectormap_core::geometry::{Point2, Point3, Polyline3};
 
@@ -56,7 +56,10 @@ fn coordinate(rng: &mut Rng, kind: u64) -> f64 {
         (1, 0) => -0.0,
         (1, 1) => 1e-9 * (1.0 + (any >> 32) as f64 / 4294967296.0),
         (2, 2) => f64::from_bits(any),
-        (_, _) => ((any >> 11) as f64 / 9007199254740992.0 - 0.5) * [20.0, 2000.0, 134217728.0][(any % 3) as usize],
+        (_, _) => {
+            ((any >> 11) as f64 / 9007199254740992.0 - 0.5)
+                * [20.0, 2000.0, 134217728.0][(any % 3) as usize]
+        }
     }
 }
 
@@ -71,7 +74,11 @@ fn coordinates(rng: &mut Rng) -> Vec<f64> {
 }
 
 fn line(cs: &[f64]) -> Polyline3 {
-    Polyline3::new(cs.chunks_exact(3).map(|p| Point3::new(p[0], p[1], p[2])).collect())
+    Polyline3::new(
+        cs.chunks_exact(3)
+            .map(|p| Point3::new(p[0], p[1], p[2]))
+            .collect(),
+    )
 }
 
 /// The same bits, where any NaN is as good as any other.
@@ -81,7 +88,10 @@ fn same(a: f64, b: f64) -> bool {
 
 fn same_line(l: &Polyline3, coords: &[f64; 192], count: usize) -> bool {
     l.points.len() == count
-        && l.points.iter().zip(coords.chunks_exact(3)).all(|(p, q)| same(p.x, q[0]) && same(p.y, q[1]) && same(p.z, q[2]))
+        && l.points
+            .iter()
+            .zip(coords.chunks_exact(3))
+            .all(|(p, q)| same(p.x, q[0]) && same(p.y, q[1]) && same(p.z, q[2]))
 }
 
 /// One random call of each kind in turn: whether the two agree.
@@ -101,10 +111,12 @@ fn agree(rng: &mut Rng, kind: usize) -> bool {
                 None => segment == u64::MAX,
                 Some(n) => {
                     segment == n.segment as u64
-                        && [n.point.x, n.point.y, n.point.z, n.distance, n.station, n.lateral]
-                            .iter()
-                            .zip(&out)
-                            .all(|(a, b)| same(*a, *b))
+                        && [
+                            n.point.x, n.point.y, n.point.z, n.distance, n.station, n.lateral,
+                        ]
+                        .iter()
+                        .zip(&out)
+                        .all(|(a, b)| same(*a, *b))
                 }
             }
         }
@@ -137,7 +149,9 @@ fn side(rng: &mut Rng, offset: f64) -> Vec<f64> {
 }
 
 fn main() {
-    let count: usize = std::env::args().nth(1).map_or(1_000_000, |n| n.parse().expect("a count"));
+    let count: usize = std::env::args()
+        .nth(1)
+        .map_or(1_000_000, |n| n.parse().expect("a count"));
     let mut rng = Rng(11);
     let mut differ = [0usize; 4];
     for i in 0..count {
@@ -156,28 +170,96 @@ fn main() {
     let rows = [
         (
             "length",
-            time(30, 1000, || (0..1000).map(|_| black_box(&a).length()).sum::<f64>()),
-            time(30, 1000, || (0..1000).map(|_| length(black_box(&l))).sum::<f64>()),
+            time(30, 1000, || {
+                (0..1000).map(|_| black_box(&a).length()).sum::<f64>()
+            }),
+            time(30, 1000, || {
+                (0..1000).map(|_| length(black_box(&l))).sum::<f64>()
+            }),
         ),
         (
             "nearest_point",
-            time(30, 1000, || (0..1000).map(|_| black_box(&a).nearest_point(p).unwrap().distance).sum::<f64>()),
-            time(30, 1000, || (0..1000).map(|_| nearest_point(black_box(&l), p.x, p.y, &mut out)).sum::<u64>()),
+            time(30, 1000, || {
+                (0..1000)
+                    .map(|_| black_box(&a).nearest_point(p).unwrap().distance)
+                    .sum::<f64>()
+            }),
+            time(30, 1000, || {
+                (0..1000)
+                    .map(|_| nearest_point(black_box(&l), p.x, p.y, &mut out))
+                    .sum::<u64>()
+            }),
         ),
         (
             "resample_count",
-            time(30, 200, || (0..200).map(|_| black_box(&a).resample_count(64).len()).sum::<usize>()),
-            time(30, 200, || (0..200).map(|_| resample_count(black_box(&l), 64, &mut coords)).sum::<usize>()),
+            time(30, 200, || {
+                (0..200)
+                    .map(|_| black_box(&a).resample_count(64).len())
+                    .sum::<usize>()
+            }),
+            time(30, 200, || {
+                (0..200)
+                    .map(|_| resample_count(black_box(&l), 64, &mut coords))
+                    .sum::<usize>()
+            }),
         ),
         (
             "centerline",
-            time(30, 100, || (0..100).map(|_| Polyline3::centerline(black_box(&a), &b).unwrap().len()).sum::<usize>()),
-            time(30, 100, || (0..100).map(|_| centerline(black_box(&l), black_box(&r), &mut coords)).sum::<usize>()),
+            time(30, 100, || {
+                (0..100)
+                    .map(|_| Polyline3::centerline(black_box(&a), &b).unwrap().len())
+                    .sum::<usize>()
+            }),
+            time(30, 100, || {
+                (0..100)
+                    .map(|_| centerline(black_box(&l), black_box(&r), &mut coords))
+                    .sum::<usize>()
+            }),
+        ),
+        // what a cross-section asks for: the centreline, its length, and the nearest points of both sides
+        (
+            "cross-section",
+            time(30, 100, || {
+                (0..100)
+                    .map(|_| {
+                        let center = Polyline3::centerline(black_box(&a), &b).unwrap();
+                        center.length()
+                            + a.nearest_point(p).unwrap().station
+                            + b.nearest_point(p).unwrap().station
+                    })
+                    .sum::<f64>()
+            }),
+            time(30, 100, || {
+                (0..100)
+                    .map(|_| {
+                        let count = centerline(black_box(&l), black_box(&r), &mut coords);
+                        let mut sum = length(&coords[..count * 3]);
+                        for side in [&l, &r] {
+                            nearest_point(side, p.x, p.y, &mut out);
+                            sum += out[4];
+                        }
+                        sum
+                    })
+                    .sum::<f64>()
+            }),
+        ),
+        (
+            "root",
+            time(30, 100_000, || {
+                (0..100_000)
+                    .map(|i| black_box(2.0 + i as f64).sqrt())
+                    .sum::<f64>()
+            }),
+            time(30, 100_000, || {
+                (0..100_000)
+                    .map(|i| square_root(black_box(2.0 + i as f64)))
+                    .sum::<f64>()
+            }),
         ),
     ];
     println!("64 points        Rust ns   here ns   ratio");
     for (name, theirs, ours) in rows {
-        println!("{name:15} {theirs:9.0} {ours:9.0} {:7.2}", ours / theirs);
+        println!("{name:15} {theirs:9.1} {ours:9.1} {:7.2}", ours / theirs);
     }
     if differ.iter().any(|d| *d > 0) {
         std::process::exit(1);

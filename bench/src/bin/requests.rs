@@ -13,7 +13,10 @@ fn double(rng: &mut Rng, kind: u64) -> f64 {
         (1, 0) => -0.0,
         (1, 1) => 1e-9 * (1.0 + (any >> 32) as f64 / 4294967296.0),
         (2, 2) => f64::from_bits(any),
-        _ => ((any >> 11) as f64 / 9007199254740992.0 - 0.5) * [2.0, 20.0, 134217728.0][(any % 3) as usize],
+        _ => {
+            ((any >> 11) as f64 / 9007199254740992.0 - 0.5)
+                * [2.0, 20.0, 134217728.0][(any % 3) as usize]
+        }
     }
 }
 
@@ -42,7 +45,12 @@ fn words(arg: &Arg) -> String {
         Arg::Polyline(l) => {
             let mut s = l.len().to_string();
             for p in &l.points {
-                s += &format!(" {:016x} {:016x} {:016x}", p.x.to_bits(), p.y.to_bits(), p.z.to_bits());
+                s += &format!(
+                    " {:016x} {:016x} {:016x}",
+                    p.x.to_bits(),
+                    p.y.to_bits(),
+                    p.z.to_bits()
+                );
             }
             s
         }
@@ -50,7 +58,9 @@ fn words(arg: &Arg) -> String {
 }
 
 fn main() {
-    let count: usize = std::env::args().nth(1).map_or(100_000, |n| n.parse().expect("a count"));
+    let count: usize = std::env::args()
+        .nth(1)
+        .map_or(100_000, |n| n.parse().expect("a count"));
     let mut rng = Rng(5);
     let mut out = std::io::BufWriter::new(std::io::stdout().lock());
     for i in 0..count {
@@ -60,7 +70,8 @@ fn main() {
         let answer = answer(name, &args);
         if answer != "panic" {
             let request: Vec<String> = args.iter().map(words).collect();
-            writeln!(out, "geom {name} {}\n= {answer}", request.join(" ")).expect("standard output");
+            writeln!(out, "geom {name} {}\n= {answer}", request.join(" "))
+                .expect("standard output");
         }
     }
 }

@@ -9,10 +9,7 @@ use Rattle.root.proofs.Doubling.{root-14, root-28}
 use borrow.Author.Needs.{needs}
 use Rattle.root.proofs.whole_root.Statement.{statement}
 use Rattle.root.proofs.whole_root.Tie as tie
-use Rattle.root.proofs.whole_root.Reads as reads
 use Rattle.root.proofs.whole_root.Lts as lts
-use Rattle.root.proofs.digits.Reads as digits-reads
-use Rattle.root.proofs.lengthen.Reads as lengthen-reads
 
 joined : (w : ℕ) → (w / 2 ^ 28 * 16384 + w % 2 ^ 28 / 16384) * 16384 + w % 2 ^ 28 % 16384 ≡ w
 joined w = omega arith

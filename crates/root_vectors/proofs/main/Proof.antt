@@ -5,14 +5,6 @@ use borrow.Author.Needs.{needs}
 use lib.ListN.{length}
 use Rattle.root_vectors.proofs.main.Statement.{statement}
 use Rattle.root_vectors.proofs.main.Tie as tie
-use Rattle.root_vectors.proofs.main.Reads as reads
-use Rattle.root_vectors.proofs.main.Lts as lts
-use Rattle.io.proofs.large_buffer.Reads as large-buffer-reads
-use Rattle.io.proofs.read_full.Reads as read-full-reads
-use Rattle.root.proofs.square_root_bits.Reads as square-root-bits-reads
-use Rattle.root_vectors.proofs.class_of.Reads as class-of-reads
-use Rattle.root_vectors.proofs.pattern.Reads as pattern-reads
-use Rattle.root_vectors.proofs.say.Reads as say-reads
 
 abbrev Inv-loop : tie.InvT-loop
 Inv-loop buffer got classes₀ differ₀ at₀ t9 t10 t11 t12 t13 t14 t15 classes differ at = (at ≤ got) × (got ≤ length buffer) × (length buffer ≡ 65536) × (length classes ≡ 6)

@@ -4,9 +4,6 @@ use borrow.Author.Needs.{needs}
 use lib.ListN.{length}
 use Rattle.root_vectors.proofs.pattern.Statement.{statement}
 use Rattle.root_vectors.proofs.pattern.Tie as tie
-use Rattle.root_vectors.proofs.pattern.Reads as reads
-use Rattle.root_vectors.proofs.pattern.Lts as lts
-use Rattle.root_vectors.proofs.digit.Reads as digit-reads
 
 abbrev Inv-loop : tie.InvT-loop
 Inv-loop s at n₀ i₀ n i = i ≤ 16
