@@ -24,6 +24,7 @@ use Rattle.map.specs.Record.{Lane, LineString, Signal, Crosswalk, RuleBody, Rul
 use Rattle.map.specs.Ceilings.{sizeOf, lanePoints, lineStringPoints, signalPoints, crosswalkPoints, bodyPoints, rulePoints, points, maxPoints}
 use Rattle.map.specs.MapFile.{lane, lineString, signal, crosswalk, rule, table, tables, mapFile, isMap}
 use Rattle.map.specs.Tables.{flagAt, lineAt, laneIn, lineStringIn, signalIn, crosswalkIn, bodyOf, ruleIn, mapOf, isMapTables}
+use Rattle.map.proofs.SoundLaws.{Sound, sound}
 use Rattle.map.proofs.ReadLaws.{getD-row, lane-number, line-number, signal-number, crosswalk-number, rule-number}
 use Rattle.row_tests.specs.Flat as flat
 use Rattle.row_tests.specs.Flat.{goodLine, goodLane, goodString, goodSignal, goodCrosswalk, goodBody, goodRule, goodRow, goodRows, goodOrder, goodTable, goodTables, goodCounts, rowPoints, tablePoints, allPoints, Few}
@@ -326,3 +327,10 @@ module _ (ws : List ℕ) (small : (j : ℕ) → getD ws j 0 < 2 ^ 64) (room : le
 
   pub then-points : goodCounts ws ≡ true → goodTables ws cs ≡ true → (n : ℕ) → n ≡ allPoints ws → leb n 1024 ≡ isMapTables ws cs
   then-points h g n e = sym (tables-are ws small room cs held long ∙ rw (h, g, e))
+
+-- what the public test's answer gives: each row's points are within its room
+pub map-few : (ws : List ℕ) → ((j : ℕ) → getD ws j 0 < 2 ^ 64) → (cs : List Float) → ((j : ℕ) → T (fits binary64 (getD cs j nan))) → isMapTables ws cs ≡ true → Few ws
+map-few ws small cs held h =
+    let s = sound ws cs h in
+    let t : goodCounts ws && (goodTables ws cs && leb (allPoints ws) 1024) ≡ true = sym (tables-are ws small (s .sized .words .room) cs held (s .sized .coords)) ∙ h in
+    tables-few ws cs (both (goodTables ws cs) (leb (allPoints ws) 1024) (both (goodCounts ws) (goodTables ws cs && leb (allPoints ws) 1024) t .1) .0)
