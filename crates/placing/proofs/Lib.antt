@@ -1,0 +1,3 @@
+pub mod WalkLaws
+pub mod CheckLaws
+pub mod PlaceLaws

@@ -1,0 +1,58 @@
+-- `placing::stop_line::place_at` meets its contract. Assumes nothing.
+use Rattle.placing.proofs.PlaceLaws.{station-bad, section-refused, section-placed}
+use borrow.Author.Needs.{needs}
+use Rattle.placing.proofs.stop_line.place_at.Statement.{statement}
+use Rattle.placing.proofs.stop_line.place_at.Tie as tie
+
+is-finite-requires : tie.Need-is-finite-requires
+is-finite-requires c κs = search needs
+
+refused-line-requires : tie.Need-refused-line-requires
+refused-line-requires c κs = search needs
+
+returns : tie.Need-returns
+returns c = station-bad _ _ _ _ _ _ _ (c .before .before .is-finite .ensures) _ (c .before .if1 .taken) (c .refused-line .ensures)
+
+clamp-requires : tie.Need-clamp-requires
+clamp-requires c κs = search needs
+
+cross-section-requires : tie.Need-cross-section-requires
+cross-section-requires c κs = search needs
+
+enum-known-r : tie.Need-enum-known-r
+enum-known-r c = search needs
+
+refused-line-requires-2 : tie.Need-refused-line-requires-2
+refused-line-requires-2 c κs = search needs
+
+enum-known-s : tie.Need-enum-known-s
+enum-known-s c = search needs
+
+across-requires : tie.Need-across-requires
+across-requires c κs = search needs
+
+moved-requires : tie.Need-moved-requires
+moved-requires c κs = search needs
+
+returns-2 : tie.Need-returns-2
+returns-2 c = section-refused _ _ _ _ _ _ _ (c .before .before .before .before .before .before .before .is-finite .ensures) (c .before .before .before .before .before .before .if1 .left) _ (c .before .before .before .before .before .clamp .ensures) _ (c .before .before .before .before .cross-section .ensures) _ _ (c .before .before .r .given .1) (c .refused-line2 .ensures)
+
+returns-3 : tie.Need-returns-3
+returns-3 c = section-placed _ _ _ _ _ _ _ (c .before .before .before .before .before .before .before .before .is-finite .ensures) (c .before .before .before .before .before .before .before .if1 .left) _ (c .before .before .before .before .before .before .clamp .ensures) _ (c .before .before .before .before .before .cross-section .ensures) _ _ _ (c .before .before .before .s .given .1) (c .before .across .ensures) (c .moved .ensures)
+
+pub place-at-spec : {M : Type 1} → statement M
+place-at-spec =
+    tie.close
+    (tie.spec
+    is-finite-requires
+    refused-line-requires
+    returns
+    clamp-requires
+    cross-section-requires
+    enum-known-r
+    refused-line-requires-2
+    enum-known-s
+    across-requires
+    moved-requires
+    returns-2
+    returns-3)
