@@ -23,7 +23,7 @@ use Rattle.changes.proofs.WrittenLaws.{length-written, word-before, word-past, 
 use Rattle.sets.specs.declared.Counts.{Counts}
 use Rattle.sets.specs.declared.Folded.{Folded}
 use Rattle.sets.specs.declared.Folded.the-variants.{Done, Refused}
-use Rattle.sets.specs.Tables.{Roomy, putList, putLists, Fits, createdIn, modifiedIn, deletedIn, Joins, United, Rises, Settled, Made, Stores}
+use Rattle.sets.specs.Tables.{Roomy, crowdOf, putList, putLists, Fits, createdIn, modifiedIn, deletedIn, Joins, United, Rises, Settled, Made, Stores}
 use Rattle.sets.specs.Fold.{foldedAs, isRefused, foldFitted, FoldsTo, FoldCalled}
 use Rattle.sets.proofs.ListLaws.{without-sorted, length-to}
 use Rattle.sets.proofs.SettleLaws.{length-in, few, walks, walked}
@@ -356,3 +356,19 @@ module _ (f c : List ℕ) (p : Bool) (a : p ≡ listsOkIn f) where
         answer = t .answer ∙ rw (← a, ← b, yes-of p m, yes-of q n, ok-lists f (sym a ∙ yes-of p m), ok-lists c (sym b ∙ yes-of q n));
         unchanged = t .unchanged;
       }
+
+-- ---- few entries
+pub few-joins : (f c u : List ℕ) → Fits f → Fits c → crowdOf f c ≤ 64 → 64 * 6 ≤ length u → Joins u 64 f c
+unfolding crowdOf
+few-joins f c u x y k s = record { first = x; second = y; created = omega arith; modified = omega arith; deleted = omega arith; size = s }
+
+pub crowd-told : (f c : List ℕ) (a0 b0 a1 b1 a2 b2 : ℕ) → a0 ≡ getD f 0 0 → b0 ≡ getD c 0 0 → a1 ≡ getD f 1 0 → b1 ≡ getD c 1 0 → a2 ≡ getD f 2 0 → b2 ≡ getD c 2 0
+    → (a0 + b0) + (a1 + b1) + (a2 + b2) ≡ crowdOf f c
+unfolding crowdOf countIn
+crowd-told f c a0 b0 a1 b1 a2 b2 e d g h i j = rw (e, d, g, h, i, j)
+
+pub fits-told : (t : List ℕ) (p : Bool) → p ≡ listsOkIn t → not p ≡ false → Fits t
+fits-told t p a m = fits-ok t (sym a ∙ yes-of p m)
+
+pub few-told : (r k : ℕ) → r ≡ k → r ≤ 64 → k ≤ 64
+few-told r k e h = omega arith

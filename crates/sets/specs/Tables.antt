@@ -16,6 +16,10 @@ pub record Roomy (w : List ℕ) : Type 0 where
   pub size : length w ≡ setWords
   pub few : (l : ℕ) → l < 3 → countIn w l ≤ 512
 
+-- how many entries the lists of two tables have in all
+unfoldable pub crowdOf : List ℕ → List ℕ → ℕ
+crowdOf f c = (countIn f 0 + countIn c 0) + (countIn f 1 + countIn c 1) + (countIn f 2 + countIn c 2)
+
 -- list l written over, and its count
 unfoldable pub putList : List ℕ → ℕ → List EntityRef → List ℕ
 putList w l xs = set (written w (fromOf l) xs) l (length xs)

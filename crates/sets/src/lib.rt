@@ -10,7 +10,7 @@ ghost use mathlib.Core.Bool.{_&&_};
 ghost use Rattle.changes.specs.ChangeSet.{foldStep};
 ghost use Rattle.changes.specs.ChangeFile.{entries, apart, listsApart};
 ghost use Rattle.changes.specs.Layout.{changeSetOf, listsOkIn};
-ghost use Rattle.sets.specs.Tables.{putList, putLists, createdIn, modifiedIn, deletedIn, Fits, Joins, United, Rises, Settled, Made, Stores};
+ghost use Rattle.sets.specs.Tables.{crowdOf, putList, putLists, createdIn, modifiedIn, deletedIn, Fits, Joins, United, Rises, Settled, Made, Stores};
 ghost use Rattle.sets.specs.Fold.{FoldsTo, FoldCalled};
 use refusal::Refusal;
 
@@ -189,6 +189,27 @@ pub fn lists_ok(t: &[u64]) -> bool
     all_apart(t)
 }
 
+// How many entries the lists of both have in all.
+pub fn crowd(f: &[u64], c: &[u64]) -> usize
+    requires { ⌜ Fits (now f) × Fits (now c) ⌝ }
+    ensures { λ r. ⌜ r ≡ crowdOf (now (f .entry)) (now (c .entry)) ⌝ }
+{
+    let a = rows::index(f[0]) + rows::index(c[0]);
+    let b = rows::index(f[1]) + rows::index(c[1]);
+    let d = rows::index(f[2]) + rows::index(c[2]);
+    a + b + d
+}
+
+// The fold of few entries.
+pub fn fold_few(f: &mut [u64], c: &[u64]) -> Folded
+    requires { ⌜ Fits (now f) × Fits (now c) × (crowdOf (now f) (now c) ≤ 64) ⌝ }
+    ensures { λ r. ⌜ FoldsTo (now (f .entry)) (now (c .entry)) r (now (f .exit)) ⌝ }
+{
+    let mut u = [0; 384];
+    let mut v = [0; 384];
+    fold_in(f, c, &mut u, &mut v, 64)
+}
+
 // The fold call: c taken into f. 13 for lists that are not those of a set, 10 where a list would be too long; then f is as it was.
 pub fn fold(f: &mut [u64], c: &[u64]) -> Folded
     ensures { λ r. ⌜ FoldCalled (now (f .entry)) (now (c .entry)) r (now (f .exit)) ⌝ }
@@ -198,6 +219,10 @@ pub fn fold(f: &mut [u64], c: &[u64]) -> Folded
     }
     if !lists_ok(c) {
         return Folded::Refused(Refusal::BadSet);
+    }
+    // few entries ask for few words to work in
+    if crowd(f, c) <= 64 {
+        return fold_few(f, c);
     }
     let mut u = [0; 6144];
     let mut v = [0; 6144];

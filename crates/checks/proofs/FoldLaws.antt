@@ -1,0 +1,92 @@
+-- Laws of the fold over the definitions: an empty set alters nothing, and the lists of a fold are apart.
+use mathlib.Core.Path.{_≡_, refl, sym, ap, ap₂, _∙_}
+use mathlib.Core.Bool.{Bool, true, false, not, _&&_, cond}
+use mathlib.Core.List.{List, [], _∷_, _++_, append-nil}
+use Rattle.rows.specs.Lists.{every, keep, noEntries}
+use Rattle.rows.proofs.Bools.{parts, and-i, and-l, and-r, clash}
+use Rattle.map.specs.Entity.{EntityRef, listed}
+use Rattle.changes.specs.ChangeSet.{Warning, ChangeSet, noChanges, sortRefs, without, normalize, foldStep}
+use Rattle.changes.specs.ChangeFile.{risingRefs, entries, apart, listsApart, listsOk}
+use Rattle.changes.proofs.Refs.{listed-keep, listed-sort, every-listed, listed-every, sort-rising, rising-same}
+use Rattle.changes.proofs.EntryLaws.{entries-rise}
+
+pub sort-sorted : (xs : List EntityRef) → risingRefs xs ≡ true → sortRefs xs ≡ xs
+sort-sorted xs h = rising-same (sortRefs xs) xs (sort-rising xs) h (listed-sort xs)
+
+keep-all : (p : EntityRef → Bool) (xs : List EntityRef) → every p xs ≡ true → keep p xs ≡ xs
+unfolding every keep
+keep-all p [] h = refl
+keep-all p (x ∷ xs) h = go (p x) (keep-all p xs (search parts)) (search parts)
+  where
+    go : (b : Bool) → keep p xs ≡ xs → b ≡ true → cond b (x ∷ keep p xs) (keep p xs) ≡ x ∷ xs
+    go true e q = ap (λ (l : List EntityRef). x ∷ l) e
+    go false e q = clash q refl
+
+pub without-apart : (xs ys : List EntityRef) → apart xs ys ≡ true → without xs ys ≡ xs
+unfolding apart without
+without-apart xs ys h = keep-all (λ a. not (listed ys a)) xs h
+
+pub apart-back : (xs ys : List EntityRef) → apart xs ys ≡ true → apart ys xs ≡ true
+unfolding apart
+apart-back xs ys h = every-listed (λ a. not (listed xs a)) ys (λ a k. go a (listed xs a) refl k)
+  where
+    go : (a : EntityRef) (b : Bool) → listed xs a ≡ b → listed ys a ≡ true → not b ≡ true
+    go a true e k = clash (listed-every (λ z. not (listed ys z)) xs a h e) (ap not k)
+    go a false e k = refl
+
+-- what is listed without ys is not listed in ys
+pub without-apart-from : (xs ys : List EntityRef) → apart (without xs ys) ys ≡ true
+unfolding apart without
+without-apart-from xs ys = every-listed (λ a. not (listed ys a)) (keep (λ a. not (listed ys a)) xs) (λ a k. and-r (listed xs a) (not (listed ys a)) (sym (listed-keep (λ b. not (listed ys b)) xs a) ∙ k))
+
+-- a fold without warnings, with the empty set
+pub fold-nothing : (f : ChangeSet) → listsOk f ≡ true → f .warnings ≡ [] → foldStep f noChanges ≡ f
+unfolding foldStep normalize listsOk listsApart
+fold-nothing f h w =
+    rw (
+      append-nil (f .created),
+      append-nil (f .modified),
+      append-nil (f .deleted),
+      sort-sorted (f .created) (entries-rise (f .created) (search parts)),
+      sort-sorted (f .modified) (entries-rise (f .modified) (search parts)),
+      sort-sorted (f .deleted) (entries-rise (f .deleted) (search parts)),
+      without-apart (f .created) (f .deleted) (search parts),
+      without-apart (f .modified) (f .created) (apart-back (f .created) (f .modified) (search parts)),
+      without-apart (f .modified) (f .deleted) (search parts),
+      without-apart (f .deleted) (f .created) (apart-back (f .created) (f .deleted) (search parts)),
+      ← w,
+    )
+
+-- ---- apart, by what is listed
+apart-if : (xs ys : List EntityRef) → ((a : EntityRef) → listed xs a ≡ true → listed ys a ≡ true → ⊥) → apart xs ys ≡ true
+unfolding apart
+apart-if xs ys f = every-listed (λ a. not (listed ys a)) xs (λ a k. go a (listed ys a) refl k)
+  where
+    go : (a : EntityRef) (b : Bool) → listed ys a ≡ b → listed xs a ≡ true → not b ≡ true
+    go a true e k = absurd (f a k e)
+    go a false e k = refl
+
+-- what stays of a sorted list was in it, and is not in what was taken out
+stays : (xs ys : List EntityRef) (a : EntityRef) → listed (without xs ys) a ≡ true → listed xs a ≡ true
+unfolding without
+stays xs ys a k = and-l (listed xs a) (not (listed ys a)) (sym (listed-keep (λ b. not (listed ys b)) xs a) ∙ k)
+
+is-out : (xs ys : List EntityRef) (a : EntityRef) → listed (without xs ys) a ≡ true → listed ys a ≡ true → ⊥
+is-out xs ys a k l = clash (listed-every (λ z. not (listed ys z)) (without xs ys) a (unfold apart in without-apart-from xs ys) k) (ap not l)
+
+sorted-has : (xs : List EntityRef) (a : EntityRef) → listed (sortRefs xs) a ≡ true → listed xs a ≡ true
+sorted-has xs a k = sym (listed-sort xs a) ∙ k
+
+-- no entry of a normalized set is in two lists
+pub normal-apart : (c : ChangeSet) → listsApart (normalize c) ≡ true
+unfolding listsApart normalize
+normal-apart c =
+    and-i _ _
+    (and-i _ _
+    (apart-if _ _ (λ a k l. is-out (sortRefs (c .modified)) (c .created) a (stays _ (c .deleted) a l) (sorted-has (c .created) a (stays (sortRefs (c .created)) (c .deleted) a k))))
+    (apart-if _ _ (λ a k l. is-out (sortRefs (c .created)) (c .deleted) a k (sorted-has (c .deleted) a (stays (sortRefs (c .deleted)) (c .created) a l)))))
+    (apart-if _ _ (λ a k l. is-out (without (sortRefs (c .modified)) (c .created)) (c .deleted) a k (sorted-has (c .deleted) a (stays (sortRefs (c .deleted)) (c .created) a l))))
+
+pub fold-apart : (f c : ChangeSet) → listsApart (foldStep f c) ≡ true
+unfolding foldStep
+fold-apart f c = normal-apart _
