@@ -1,2 +1,3 @@
 pub mod RoundTrip
 mod Cases
+pub mod ReadLaws

@@ -173,7 +173,7 @@ module _ {A : Type 0} (l l′ : List A) (d : A) (e : length l′ ≡ length l) w
       let u : i < n = omega (arith, h, cut-length l′ at n, min-le-left n (length l′ - at)) in
       getD-cut l′ at n i d u ∙ k (at + i) (omega arith) (omega arith) ∙ sym (getD-cut l at n i d u))
 
-rows-lie : (i j w : ℕ) → j < i → j * w + w ≤ i * w
+pub rows-lie : (i j w : ℕ) → j < i → j * w + w ≤ i * w
 rows-lie i j w h = omega (arith, suc-mul j w, mul-le-mul-right {m = suc j} {n = i} w (omega arith))
 
 pub record Filling (s : Bytes) (k : ℕ) (ws₀ : List ℕ) (cs₀ : List Float) (q₀ : Place) (n : ℕ) (ws : List ℕ) (cs : List Float) (q : Place) (i : ℕ) : Type 0 where
