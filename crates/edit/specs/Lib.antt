@@ -2,3 +2,4 @@ pub mod Edit
 pub mod StopLine
 pub mod Light
 pub mod Links
+pub mod RuleLines

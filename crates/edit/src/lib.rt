@@ -1,4 +1,5 @@
 // The three edits: what a caller asks for.
+pub mod rules; // rules.rt: the lines that rules name
 
 // The rule that makes vehicles stop at a new line.
 pub enum StopRule {
