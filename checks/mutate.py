@@ -2,8 +2,8 @@
 """One-place edits of the definitions, each of which the proof of the law of every run should refuse.
 
 Run at the repository's root: python3 checks/mutate.py [WORDS], for all edits or those whose name holds WORDS.
-The repository is copied to a temporary folder, the worked crossings (crates/edit/proofs) are taken out, so that the law stands
-alone, and for each edit `rt dev run` is asked. A line says REFUSED and the first proofs that broke, or PASSES, NOT FOUND where the
+What the law leans on (definitions, laws and the types that they name; no function, no worked crossing) is copied to a temporary
+folder, so that the law stands alone, and for each edit `rt dev run` is asked. A line says REFUSED and the first proofs that broke, or PASSES, NOT FOUND where the
 text to be edited is not there just once, BAD EDIT where it is no definition any more. The exit status is 1 for any but REFUSED.
 A broken proof is not yet a false law: where the law stays true for all that, the edit says why.
 """
@@ -105,12 +105,62 @@ EDITS = [
 ]
 
 
-def without_crossings(root):
-    proofs = root + '/crates/edit/proofs'
-    if os.path.isdir(proofs):
-        shutil.rmtree(proofs)
-        os.mkdir(proofs)
-        open(proofs + '/Lib.antt', 'w').close()
+REFERENCE = re.compile(r'Rattle·(\w+?)(?:·(?:specs|proofs))?\.(specs|proofs)\.(?:declared\.)?([A-Z]\w*)')
+DECLARED = re.compile(r'Rattle·(\w+?)(?:·specs)?\.specs\.declared\.(\w+)')
+TYPE = re.compile(r'^pub (?:struct|enum) (\w+).*?^}\n', re.M | re.S)
+
+
+def read(path):
+    with open(path) as file:
+        return file.read()
+
+
+def law_alone(here, root):
+    """The definitions and laws that the law of every run leans on, with the types that they name and no function."""
+    def source(module):
+        return '%s/crates/%s/%s/%s.antt' % ((here,) + module)
+
+    folder = here + '/crates/run/'
+    ahead = [('run', kind, name[:-5]) for kind in ('specs', 'proofs') for name in os.listdir(folder + kind)
+             if name.endswith('.antt') and name != 'Lib.antt']
+    modules, types = set(), set()
+    while ahead:
+        module = ahead.pop()
+        if module in modules or not os.path.exists(source(module)):
+            continue
+        modules.add(module)
+        text = read(source(module))
+        ahead += REFERENCE.findall(text)
+        types |= set(DECLARED.findall(text))
+    crates = {crate for crate, _, _ in modules} | {crate for crate, _ in types}
+    library = {crate: read('%s/crates/%s/src/lib.rt' % (here, crate)) for crate in crates}
+    blocks = {crate: {m.group(1): m.group(0) for m in TYPE.finditer(text)} for crate, text in library.items()}
+    grown = None
+    while grown != types:
+        grown = set(types)
+        for crate, name in grown:
+            words = set(re.findall(r'\w+', blocks[crate][name]))
+            types |= {(other, word) for other in crates for word in words & set(blocks[other])
+                      if other == crate or re.search(r'\b%s::%s\b' % (other, word), library[crate])}
+    for crate in crates:
+        for kind in ('specs', 'proofs', 'src'):
+            os.makedirs('%s/crates/%s/%s' % (root, crate, kind), exist_ok=True)
+        for kind in ('specs', 'proofs'):
+            kept = [name for c, k, name in sorted(modules) if (c, k) == (crate, kind)]
+            for name in kept:
+                shutil.copy(source((crate, kind, name)), '%s/crates/%s/%s/' % (root, crate, kind))
+            with open('%s/crates/%s/%s/Lib.antt' % (root, crate, kind), 'w') as file:
+                file.write(''.join('pub mod %s\n' % name for name in kept))
+        kept = ''.join(blocks[crate][name] for c, name in sorted(types) if c == crate)
+        uses = [line for line in library[crate].splitlines()
+                if line.startswith('use ') and re.search(r'\b%s\b' % line.rstrip(';').split('::')[-1], kept)]
+        with open('%s/crates/%s/src/lib.rt' % (root, crate), 'w') as file:
+            file.write('\n'.join(uses + [kept]) if kept else '// Definitions only.\n')
+    with open(root + '/crates.txt', 'w') as file:
+        for line in read(here + '/crates.txt').splitlines():
+            name, _, needs = line.partition(':')
+            if name in crates:
+                file.write('%s: %s\n' % (name, ' '.join(need for need in needs.split() if need in crates)))
 
 
 def broken(text):
@@ -126,8 +176,7 @@ def main(words):
     unexpected = 0
     with tempfile.TemporaryDirectory() as made:
         root = made + '/copy'
-        shutil.copytree(here, root, ignore=shutil.ignore_patterns('.git'))
-        without_crossings(root)
+        law_alone(here, root)
         first = subprocess.run(['rt', 'dev', 'run'], cwd=root, capture_output=True, text=True)
         if first.returncode:
             sys.exit('the law is not proved as it stands:\n' + first.stdout + first.stderr)
