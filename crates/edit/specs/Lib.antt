@@ -3,3 +3,5 @@ pub mod StopLine
 pub mod Light
 pub mod Links
 pub mod RuleLines
+pub mod Lent
+pub mod Request

@@ -1,4 +1,8 @@
-// The three edits: what a caller asks for.
+// The three edits: what a caller asks for, and what it is answered.
+use changes::Tally;
+use placing::MaybeNumber;
+use refusal::Refusal;
+
 pub mod rules; // rules.rt: the lines that rules name
 
 // The rule that makes vehicles stop at a new line.
@@ -22,4 +26,39 @@ pub struct SignalBulb {
     pub position: geometry::Point3,
     pub color: map::BulbColor,
     pub arrow: map::BulbArrow,
+}
+
+// A light's lamps: the standard ones, or up to four that are given. A count above four is refused.
+pub struct Bulbs {
+    pub given: bool,
+    pub count: u64,
+    pub bulbs: [SignalBulb; 4],
+}
+
+pub enum Height {
+    Standard,
+    Metres(f64),
+}
+
+// A new light, but its lists: the lanes, the points of a given line and of a given housing come beside it.
+pub struct SignalRequest {
+    pub choice: StopLineChoice,
+    pub housing_given: bool,
+    pub height: Height,
+    pub kind: map::SignalKind,
+    pub bulbs: Bulbs,
+    // the light that it joins
+    pub group: MaybeNumber,
+}
+
+// The number of the record that was made or linked, or the refusal.
+pub enum Called {
+    Done(u64),
+    Refused(Refusal),
+}
+
+// An answer, and the tally that is right after it.
+pub struct Answered {
+    pub called: Called,
+    pub tally: Tally,
 }
