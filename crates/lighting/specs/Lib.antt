@@ -1,1 +1,2 @@
 pub mod RuleLines
+pub mod Group

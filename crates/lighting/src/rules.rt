@@ -11,7 +11,7 @@ ghost use Rattle.placing.specs.Answers.{maybeNumber};
 ghost use Rattle.lighting.specs.RuleLines.{headLine, LineOn, LineFound};
 
 // The line of a light, a sign or a marking.
-fn stops_at(h: RuleHead) -> MaybeNumber
+pub fn stops_at(h: RuleHead) -> MaybeNumber
     ensures { λ r. ⌜ maybeNumber r ≡ headLine h ⌝ }
 {
     if h.kind == 3 {

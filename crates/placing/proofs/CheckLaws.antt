@@ -24,12 +24,12 @@ use Rattle.placing.specs.Answers.{maybeNumber, UnknownRead, LanesChecked
 
 -- ---- lanes
 
-no-entries : (ns : List ℕ) → length ns ≡ 0 → noEntries ns ≡ true
+pub no-entries : (ns : List ℕ) → length ns ≡ 0 → noEntries ns ≡ true
 unfolding noEntries
 no-entries [] h = refl
 no-entries (n ∷ ns) h = absurd (let z : ⊥ = omega arith in z)
 
-some-entries : (ns : List ℕ) → (length ns ≡ 0 → ⊥) → noEntries ns ≡ false
+pub some-entries : (ns : List ℕ) → (length ns ≡ 0 → ⊥) → noEntries ns ≡ false
 unfolding noEntries
 some-entries [] h = absurd (h refl)
 some-entries (n ∷ ns) h = refl
