@@ -1,0 +1,4 @@
+pub mod SettleLaws
+pub mod CopyLaws
+pub mod CeilingLaws
+pub mod CallLaws

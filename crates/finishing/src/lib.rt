@@ -1,0 +1,60 @@
+// What comes last in every call: the draft's change set is settled with the running fold, and answered.
+ghost use mathlib.Core.Path.{_≡_};
+ghost use mathlib.Core.Bool.{true};
+ghost use Prim.Native.Nat.{_<_};
+ghost use lib.ListN.{length};
+ghost use Rattle.changes.specs.Layout.{setWords, listIn, changeSetOf, listsOkIn};
+ghost use Rattle.sets.specs.Tables.{Roomy, putList};
+ghost use Rattle.finishing.specs.Finish.{RoomyAll, WarningsCopied, FoldSettled};
+use placing::Checked;
+use refusal::Refusal;
+use sets::Folded;
+
+// The draft is normalized and taken into the fold: 10 where a list of the fold would be too long, then 11. On a refusal the fold is as it was.
+pub fn settle(fold: &mut [u64], draft: &mut [u64], late: bool) -> Checked
+    requires { ⌜ (listsOkIn (now fold) ≡ true) × RoomyAll (now draft) ⌝ }
+    ensures { λ r. ⌜ FoldSettled (now (fold .entry)) (now (draft .entry)) late r (now (fold .exit)) (now (draft .exit)) ⌝ }
+{
+    normal::normalize(draft);
+    if late {
+        if !sets::fold_fits(fold, draft) {
+            return Checked::Refused(Refusal::Full);
+        }
+        return Checked::Refused(Refusal::NumbersSpent);
+    }
+    match sets::fold_fitted(fold, draft) {
+        Folded::Refused(r) => Checked::Refused(r),
+        Folded::Done => Checked::Fine,
+    }
+}
+
+// List l of the draft, with its count.
+fn copy_list(set: &mut [u64], draft: &[u64], l: usize)
+    requires { ⌜ (length (now set) ≡ setWords) × Roomy (now draft) × (l < 3) ⌝ }
+    ensures { λ _. ⌜ now (set .exit) ≡ putList (now (set .entry)) l (listIn (now (draft .entry)) l) ⌝ }
+{
+    let n = rows::index(draft[l]);
+    sets::put_list(set, l, draft, 4 + l * 1024 + n * 2, n);
+}
+
+// The draft's warnings, with their count.
+fn copy_warnings(set: &mut [u64], draft: &[u64])
+    requires { ⌜ (length (now set) ≡ setWords) × RoomyAll (now draft) ⌝ }
+    ensures { λ _. ⌜ WarningsCopied (now (set .entry)) (now (draft .entry)) (now (set .exit)) ⌝ }
+{
+    let n = rows::index(draft[3]);
+    let e = 3076 + n * 3;
+    rows::put(set, 3076, &draft[3076..e]);
+    set[3] = n as u64;
+}
+
+// The draft's set, in the table that is answered: counts, and as many entries.
+pub fn copy_set(set: &mut [u64], draft: &[u64])
+    requires { ⌜ (length (now set) ≡ setWords) × RoomyAll (now draft) ⌝ }
+    ensures { λ _. ⌜ changeSetOf (now (set .exit)) ≡ changeSetOf (now (draft .entry)) ⌝ }
+{
+    copy_list(set, draft, 0);
+    copy_list(set, draft, 1);
+    copy_list(set, draft, 2);
+    copy_warnings(set, draft);
+}
