@@ -6,6 +6,7 @@ ghost use lib.ListN.{length};
 ghost use Rattle.changes.specs.Layout.{setWords, listIn, changeSetOf, listsOkIn};
 ghost use Rattle.sets.specs.Tables.{Roomy, putList};
 ghost use Rattle.finishing.specs.Finish.{RoomyAll, WarningsCopied, FoldSettled};
+use changes::layout;
 use placing::Checked;
 use refusal::Refusal;
 use sets::Folded;
@@ -34,7 +35,7 @@ fn copy_list(set: &mut [u64], draft: &[u64], l: usize)
     ensures { λ _. ⌜ now (set .exit) ≡ putList (now (set .entry)) l (listIn (now (draft .entry)) l) ⌝ }
 {
     let n = rows::index(draft[l]);
-    sets::put_list(set, l, draft, 4 + l * 1024 + n * 2, n);
+    sets::put_list(set, l, draft, layout::LISTS + l * layout::LIST + n * 2, n);
 }
 
 // The draft's warnings, with their count.
@@ -43,8 +44,9 @@ fn copy_warnings(set: &mut [u64], draft: &[u64])
     ensures { λ _. ⌜ WarningsCopied (now (set .entry)) (now (draft .entry)) (now (set .exit)) ⌝ }
 {
     let n = rows::index(draft[3]);
-    let e = 3076 + n * 3;
-    rows::put(set, 3076, &draft[3076..e]);
+    let from = layout::WARNINGS_FROM;
+    let e = from + n * 3;
+    rows::put(set, from, &draft[from..e]);
     set[3] = n as u64;
 }
 
