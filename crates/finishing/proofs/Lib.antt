@@ -1,3 +1,4 @@
+pub mod LentLaws
 pub mod SettleLaws
 pub mod CopyLaws
 pub mod CeilingLaws

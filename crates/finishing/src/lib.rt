@@ -1,15 +1,33 @@
-// What comes last in every call: the draft's change set is settled with the running fold, and answered.
+// What every call begins and ends with: the tests of what it is lent, and the draft's change set settled with the running fold, and answered.
 ghost use mathlib.Core.Path.{_≡_};
 ghost use mathlib.Core.Bool.{true};
 ghost use Prim.Native.Nat.{_<_};
 ghost use lib.ListN.{length};
 ghost use Rattle.changes.specs.Layout.{setWords, listIn, changeSetOf, listsOkIn};
 ghost use Rattle.sets.specs.Tables.{Roomy, putList};
-ghost use Rattle.finishing.specs.Finish.{RoomyAll, WarningsCopied, FoldSettled};
+ghost use Rattle.placing.specs.Answers.{checked};
+ghost use Rattle.finishing.specs.Finish.{lentChecks, RoomyAll, WarningsCopied, FoldSettled};
+use changes::Tally;
 use changes::layout;
 use placing::Checked;
 use refusal::Refusal;
 use sets::Folded;
+
+// What every call tests before all else: 12 for tables that are not a map's, then 13 for a fold that is not the map's or a set that is no table of one.
+pub fn check_lent(words: &[u64], coords: &[f64], fold: &[u64], tally: Tally, set: &[u64]) -> Checked
+    ensures { λ r. ⌜ checked r ≡ lentChecks (record { words = now (words .entry); coords = now (coords .entry); fold = now (fold .entry); tally = tally; set = now (set .entry) }) ⌝ }
+{
+    if !validity::is_map(words, coords) {
+        return Checked::Refused(Refusal::BadMap);
+    }
+    if set.len() != layout::WORDS {
+        return Checked::Refused(Refusal::BadSet);
+    }
+    if !running::fold_ok(words, fold, tally) {
+        return Checked::Refused(Refusal::BadSet);
+    }
+    Checked::Fine
+}
 
 // The draft is normalized and taken into the fold: 10 where a list of the fold would be too long, then 11. On a refusal the fold is as it was.
 pub fn settle(fold: &mut [u64], draft: &mut [u64], late: bool) -> Checked

@@ -17,6 +17,9 @@ mul-e c = omega (arith, C.few-warnings _ (c .before .before .before .before .pre
 add-e : tie.Need-add-e
 add-e c = omega (arith, C.few-warnings _ (c .before .before .before .before .pre .1) _ (c .index .ensures))
 
+mul-put : tie.Need-mul-put
+mul-put c = omega (arith, C.few-warnings _ (c .before .before .before .before .before .pre .1) _ (c .before .index .ensures))
+
 sub-put : tie.Need-sub-put
 sub-put c = search needs
 
@@ -46,6 +49,7 @@ copy-warnings-spec =
     index-requires
     mul-e
     add-e
+    mul-put
     sub-put
     part-put-start
     part-put-end
