@@ -6,7 +6,8 @@ ghost use lib.ListN.{length};
 ghost use Rattle.rows.specs.Lists.{every};
 ghost use Rattle.changes.specs.ChangeSet.{warning};
 ghost use Rattle.changes.specs.ChangeFile.{warningForm, warnings};
-ghost use Rattle.changes.specs.Layout.{setWords, aboutOf, warningsAt, isSetIn};
+ghost use Rattle.changes.specs.Layout.{setWords, fromOf, aboutOf, warningsAt, isSetIn};
+use changes::layout;
 
 // Whether code c about record (k, x), or about none where k is 0, is a warning of a set.
 pub fn warning_ok(c: u64, k: u64, x: u64) -> bool
@@ -27,13 +28,13 @@ pub fn warning_ok(c: u64, k: u64, x: u64) -> bool
 // Whether the n warnings are those of a set.
 pub fn warnings_ok(t: &[u64], n: usize) -> bool
     requires { ⌜ length (now t) ≡ setWords ⌝ }
-    ensures { λ r. ⌜ r ≡ warnings .fits (warningsAt (now (t .entry)) 3076 n) ⌝ }
+    ensures { λ r. ⌜ r ≡ warnings .fits (warningsAt (now (t .entry)) (fromOf 3) n) ⌝ }
 {
-    if 160 < n {
+    if layout::WARNINGS < n {
         return false;
     }
     let mut left = n;
-    let mut at = 3076;
+    let mut at = layout::WARNINGS_FROM;
     while 0 < left {
         if !warning_ok(t[at], t[at + 1], t[at + 2]) {
             return false;

@@ -17,7 +17,7 @@ use Rattle.codec.proofs.Fits.{list-each, list-few, list-fits}
 use Rattle.map.specs.Entity.{EntityRef, entity}
 use Rattle.changes.specs.ChangeSet.{Warning, warning, ChangeSet}
 use Rattle.changes.specs.ChangeFile.{maxWarnings, kinds, about, warningForm, warnings, entries, changeFile, isSet, listsOk, listsApart}
-use Rattle.changes.specs.Layout.{setWords, countIn, aboutOf, warningAt, warningsAt, changeSetOf, listsOkIn, isSetIn}
+use Rattle.changes.specs.Layout.{fromOf, setWords, countIn, aboutOf, warningAt, warningsAt, changeSetOf, listsOkIn, isSetIn}
 use Rattle.changes.proofs.Entries.{Warned, one-warned, bare-warned, set-fits}
 use Rattle.sets.proofs.TableLaws.{ok-size-of, ok-lists}
 
@@ -71,21 +71,21 @@ unfolding warningsAt
 warnings-step t p zero h = absurd (omega arith)
 warnings-step t p (suc n) h = let r : suc n - 1 ≡ n = omega arith in rw r
 
-pub too-many : (t : List ℕ) (n : ℕ) → 160 < n → false ≡ warnings .fits (warningsAt t 3076 n)
+pub too-many : (t : List ℕ) (n : ℕ) → maxWarnings < n → false ≡ warnings .fits (warningsAt t (fromOf 3) n)
 unfolding warnings
-too-many t n h = sym (not-true-false _ (λ k. let u = leb-true (length (warningsAt t 3076 n)) 160 (list-few maxWarnings warningForm (warningsAt t 3076 n) k) in let v = length-warnings t 3076 n in omega arith))
+too-many t n h = sym (not-true-false _ (λ k. let u = leb-true (length (warningsAt t (fromOf 3) n)) maxWarnings (list-few maxWarnings warningForm (warningsAt t (fromOf 3) n) k) in let v = length-warnings t (fromOf 3) n in omega arith))
 
 pub record Passing (b : Bool) (t : List ℕ) (at left : ℕ) : Type 0 where
   pub room : at + left * 3 ≤ length t
   pub goes : every (warningForm .fits) (warningsAt t at left) ≡ b
 
-pub passing-start : (t : List ℕ) (n : ℕ) → length t ≡ setWords → n ≤ 160 → Passing (warnings .fits (warningsAt t 3076 n)) t 3076 n
+pub passing-start : (t : List ℕ) (n : ℕ) → length t ≡ setWords → n ≤ maxWarnings → Passing (warnings .fits (warningsAt t (fromOf 3) n)) t (fromOf 3) n
 unfolding warnings
 passing-start t n s h = record {
   room = omega arith;
   goes = agree _ _
-      (λ e. list-fits maxWarnings warningForm (warningsAt t 3076 n) (omega arith) (le-leb (length (warningsAt t 3076 n)) 160 (let v = length-warnings t 3076 n in omega arith)) e)
-      (λ e. list-each maxWarnings warningForm (warningsAt t 3076 n) e);
+      (λ e. list-fits maxWarnings warningForm (warningsAt t (fromOf 3) n) (omega arith) (le-leb (length (warningsAt t (fromOf 3) n)) maxWarnings (let v = length-warnings t (fromOf 3) n in omega arith)) e)
+      (λ e. list-each maxWarnings warningForm (warningsAt t (fromOf 3) n) e);
 }
 
 module _ (b : Bool) (t : List ℕ) (at left : ℕ) (r : Bool) (i : Passing b t at left) (o : 0 < left)
@@ -148,7 +148,7 @@ module _ (t : List ℕ) (p : Bool) (h : p ≡ listsOkIn t) where
       ok true z = refl
       ok false z = sym z
 
-  pub set-told : not p ≡ false → (n : ℕ) (r : Bool) → n ≡ getD t 3 0 → r ≡ warnings .fits (warningsAt t 3076 n) → r ≡ isSetIn t
+  pub set-told : not p ≡ false → (n : ℕ) (r : Bool) → n ≡ getD t 3 0 → r ≡ warnings .fits (warningsAt t (fromOf 3) n) → r ≡ isSetIn t
   unfolding isSetIn changeSetOf countIn
   set-told m n r e k = rw (set-parts (changeSetOf t), eq-eqb (length t) setWords (set-size m), ok-lists t (sym h ∙ ok p m), ← e) k
     where

@@ -1,13 +1,13 @@
--- `checks::warnings_ok` meets its contract. Assumes nothing.
-use Rattle.changes.specs.Layout.{warningsAt}
+-- `set_tests::warnings_ok` meets its contract. Assumes nothing.
+use Rattle.changes.specs.Layout.{fromOf, warningsAt}
 use Rattle.changes.specs.ChangeFile.{warnings}
-use Rattle.checks.proofs.CheckLaws as L
+use Rattle.set_tests.proofs.SetLaws as L
 use borrow.Author.Needs.{needs}
-use Rattle.checks.proofs.warnings_ok.Statement.{statement}
-use Rattle.checks.proofs.warnings_ok.Tie as tie
+use Rattle.set_tests.proofs.warnings_ok.Statement.{statement}
+use Rattle.set_tests.proofs.warnings_ok.Tie as tie
 
 abbrev Inv-loop : tie.InvT-loop
-Inv-loop t n left₀ at₀ left at = L.Passing (warnings .fits (warningsAt t 3076 n)) t at left
+Inv-loop t n left₀ at₀ left at = L.Passing (warnings .fits (warningsAt t (fromOf 3) n)) t at left
 
 abbrev μ-loop : tie.MeasureT-loop
 μ-loop t n left₀ at₀ left at = left

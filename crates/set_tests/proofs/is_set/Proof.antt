@@ -1,9 +1,9 @@
--- `checks::is_set` meets its contract. Assumes nothing.
+-- `set_tests::is_set` meets its contract. Assumes nothing.
 use native.Mathlib.Omega.{arith}
-use Rattle.checks.proofs.CheckLaws as L
+use Rattle.set_tests.proofs.SetLaws as L
 use borrow.Author.Needs.{needs}
-use Rattle.checks.proofs.is_set.Statement.{statement}
-use Rattle.checks.proofs.is_set.Tie as tie
+use Rattle.set_tests.proofs.is_set.Statement.{statement}
+use Rattle.set_tests.proofs.is_set.Tie as tie
 
 lists-ok-requires : tie.Need-lists-ok-requires
 lists-ok-requires c κs = search needs

@@ -1,8 +1,8 @@
--- `checks::warning_ok` meets its contract. Assumes nothing.
-use Rattle.checks.proofs.CheckLaws as L
+-- `set_tests::warning_ok` meets its contract. Assumes nothing.
+use Rattle.set_tests.proofs.SetLaws as L
 use borrow.Author.Needs.{needs}
-use Rattle.checks.proofs.warning_ok.Statement.{statement}
-use Rattle.checks.proofs.warning_ok.Tie as tie
+use Rattle.set_tests.proofs.warning_ok.Statement.{statement}
+use Rattle.set_tests.proofs.warning_ok.Tie as tie
 
 returns : tie.Need-returns
 returns c = search (needs, L.warning-told)
