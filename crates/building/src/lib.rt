@@ -1,13 +1,12 @@
 // A change set built in a lent table: entries and warnings added, then `normalize`.
 ghost use mathlib.Core.Path.{_≡_};
-ghost use mathlib.Core.List.{[], _∷_, _++_};
-ghost use Prim.Native.Nat.{_+_, _*_, _≤_, _<_};
+ghost use Prim.Native.Nat.{_<_};
 ghost use lib.ListN.{length};
 ghost use Rattle.map.specs.Entity.{entity};
 ghost use Rattle.changes.specs.ChangeSet.{tallyOf};
-ghost use Rattle.changes.specs.Layout.{setWords, countIn, listIn, changeSetOf};
-ghost use Rattle.sets.specs.Tables.{putList};
-ghost use Rattle.building.specs.Build.{Cleared, putWarning};
+ghost use Rattle.changes.specs.Layout.{setWords, countIn, changeSetOf};
+ghost use Rattle.sets.specs.Tables.{Roomy};
+ghost use Rattle.building.specs.Build.{Cleared, EntryAdded, WarningAdded};
 use changes::Tally;
 
 // How many entries the fold has as created, modified and deleted.
@@ -35,8 +34,8 @@ pub fn clear(s: &mut [u64])
 
 // Entry (k, x) at the end of list l: 0 created, 1 modified, 2 deleted.
 pub fn push(s: &mut [u64], l: usize, k: u64, x: u64)
-    requires { ⌜ (length (now s) ≡ setWords) × (l < 3) × (countIn (now s) l < 512) ⌝ }
-    ensures { λ _. ⌜ now (s .exit) ≡ putList (now (s .entry)) l (listIn (now (s .entry)) l ++ entity k x ∷ []) ⌝ }
+    requires { ⌜ Roomy (now s) × (l < 3) × (countIn (now s) l < 512) ⌝ }
+    ensures { λ _. ⌜ EntryAdded (now (s .entry)) l (entity k x) (now (s .exit)) ⌝ }
 {
     let n = rows::index(s[l]);
     let at = 4 + l * 1024 + n * 2;
@@ -47,8 +46,8 @@ pub fn push(s: &mut [u64], l: usize, k: u64, x: u64)
 
 // A warning at the end: code c, about record (k, x), or about none where k is 0.
 pub fn warn(s: &mut [u64], c: u64, k: u64, x: u64)
-    requires { ⌜ (length (now s) ≡ setWords) × (countIn (now s) 3 < 160) ⌝ }
-    ensures { λ _. ⌜ now (s .exit) ≡ putWarning (now (s .entry)) c k x ⌝ }
+    requires { ⌜ Roomy (now s) × (countIn (now s) 3 < 160) ⌝ }
+    ensures { λ _. ⌜ WarningAdded (now (s .entry)) c k x (now (s .exit)) ⌝ }
 {
     let n = rows::index(s[3]);
     let at = 3076 + n * 3;

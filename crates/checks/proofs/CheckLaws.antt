@@ -115,7 +115,7 @@ passing-end b t at left i h = let q : left ≡ 0 = omega arith in rw q at (i .go
 pub ruleset passing = (too-many, passing-start, passing-stop, passing-more, passing-end)
 
 -- ---- the set
-set-parts : (c : ChangeSet) → isSet c ≡ (listsOk c && warnings .fits (c .warnings))
+pub set-parts : (c : ChangeSet) → isSet c ≡ (listsOk c && warnings .fits (c .warnings))
 unfolding isSet changeFile listsOk only via _⊗_
 set-parts c = go (entries .fits (c .created)) (entries .fits (c .modified)) (entries .fits (c .deleted)) (warnings .fits (c .warnings)) (listsApart c)
   where

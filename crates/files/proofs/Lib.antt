@@ -1,3 +1,4 @@
 pub mod RoundTrip
 mod Cases
 pub mod ReadLaws
+pub mod WriteLaws

@@ -24,12 +24,12 @@ use Rattle.placing.specs.Answers.{maybeNumber, UnknownRead, LanesChecked
 
 -- ---- lanes
 
-no-entries : (ns : List ℕ) → length ns ≡ 0 → noEntries ns ≡ true
+pub no-entries : (ns : List ℕ) → length ns ≡ 0 → noEntries ns ≡ true
 unfolding noEntries
 no-entries [] h = refl
 no-entries (n ∷ ns) h = absurd (let z : ⊥ = omega arith in z)
 
-some-entries : (ns : List ℕ) → (length ns ≡ 0 → ⊥) → noEntries ns ≡ false
+pub some-entries : (ns : List ℕ) → (length ns ≡ 0 → ⊥) → noEntries ns ≡ false
 unfolding noEntries
 some-entries [] h = absurd (h refl)
 some-entries (n ∷ ns) h = refl
@@ -101,3 +101,8 @@ unfolding checkPolyline
 shape-few cs e =
     let t = passed (ltb 64 (length (polylineOf cs))) 10 [] _ (second (refuseWhen (not (every onMap cs)) 9 []) _ (second (refuseWhen (not (eqb (length cs % 3) 0 && every isFinite cs)) 5 (1 ∷ [])) _ e)) in
     omega (arith, length-points cs, ltb-false 64 (length (polylineOf cs)) t)
+
+pub lanes-there : (ws lanes : List ℕ) → LanesChecked ws lanes Fine → 0 < length lanes
+unfolding checkLaneList noEntries
+lanes-there ws [] h = absurd (never 1 [] (h .answer []))
+lanes-there ws (n ∷ ns) h = omega arith

@@ -55,7 +55,7 @@ same-length : tie.Need-same-length
 same-length c = search needs
 
 returns : tie.Need-returns
-returns c = L.pushed _ _ _ _ _ (c .index .ensures)
+returns c = search (needs, L.entry-added)
 
 pub push-spec : {M : Type 1} → statement M
 push-spec =

@@ -52,7 +52,7 @@ same-length : tie.Need-same-length
 same-length c = search needs
 
 returns : tie.Need-returns
-returns c = L.warned _ _ _ _ _ (c .index .ensures)
+returns c = search (needs, L.warning-added)
 
 pub warn-spec : {M : Type 1} → statement M
 warn-spec =

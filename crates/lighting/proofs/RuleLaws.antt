@@ -20,8 +20,8 @@ use Rattle.place.specs.Readable.{ReadableWords}
 use Rattle.placing.specs.declared.MaybeNumber.{MaybeNumber}
 use Rattle.placing.specs.declared.MaybeNumber.the-variants.{At, Nothing}
 use Rattle.placing.specs.Answers.{maybeNumber}
 use Rattle.edit.specs.Light.{stopsAt, existingStopLine}
-use Rattle.edit.specs.RuleLines.{headLine, lineOf, LineOn, LineFound}
+use Rattle.lighting.specs.RuleLines.{headLine, lineOf, LineOn, LineFound}
 
 -- ---- by kind
 
@@ -65,7 +65,7 @@ by-kind (suc (suc (suc (suc (suc (suc (suc k))))))) r c =
     let j : ℕ = suc (suc (suc (suc (suc (suc (suc k)))))) in
     rw (ne-eqb j 3 (λ e. let z : ⊥ = omega arith in z), ne-eqb j 1 (λ e. let z : ⊥ = omega arith in z), ne-eqb j 2 (λ e. let z : ⊥ = omega arith in z))
 
-head-is : (r : List ℕ) (h : RuleHead) → HeadRead r h → (c : List Float) → headLine h ≡ stopsAt (bodyOf (getD r 1 0) r c)
+pub head-is : (r : List ℕ) (h : RuleHead) → HeadRead r h → (c : List Float) → headLine h ≡ stopsAt (bodyOf (getD r 1 0) r c)
 unfolding headLine
 head-is r h e c = rw (e .kind, e .hasLine, e .line) (by-kind (getD r 1 0) r c)
 

@@ -39,23 +39,24 @@ pub without-apart-from : (xs ys : List EntityRef) → apart (without xs ys) ys �
 unfolding apart without
 without-apart-from xs ys = every-listed (λ a. not (listed ys a)) (keep (λ a. not (listed ys a)) xs) (λ a k. and-r (listed xs a) (not (listed ys a)) (sym (listed-keep (λ b. not (listed ys b)) xs a) ∙ k))
 
+-- a set whose lists are those of a set file is normalized
+pub normal-same : (c : ChangeSet) → listsOk c ≡ true → normalize c ≡ c
+unfolding normalize listsOk listsApart
+normal-same c h =
+    rw (
+      sort-sorted (c .created) (entries-rise (c .created) (search parts)),
+      sort-sorted (c .modified) (entries-rise (c .modified) (search parts)),
+      sort-sorted (c .deleted) (entries-rise (c .deleted) (search parts)),
+      without-apart (c .created) (c .deleted) (search parts),
+      without-apart (c .modified) (c .created) (apart-back (c .created) (c .modified) (search parts)),
+      without-apart (c .modified) (c .deleted) (search parts),
+      without-apart (c .deleted) (c .created) (apart-back (c .created) (c .deleted) (search parts)),
+    )
+
 -- a fold without warnings, with the empty set
 pub fold-nothing : (f : ChangeSet) → listsOk f ≡ true → f .warnings ≡ [] → foldStep f noChanges ≡ f
-unfolding foldStep normalize listsOk listsApart
-fold-nothing f h w =
-    rw (
-      append-nil (f .created),
-      append-nil (f .modified),
-      append-nil (f .deleted),
-      sort-sorted (f .created) (entries-rise (f .created) (search parts)),
-      sort-sorted (f .modified) (entries-rise (f .modified) (search parts)),
-      sort-sorted (f .deleted) (entries-rise (f .deleted) (search parts)),
-      without-apart (f .created) (f .deleted) (search parts),
-      without-apart (f .modified) (f .created) (apart-back (f .created) (f .modified) (search parts)),
-      without-apart (f .modified) (f .deleted) (search parts),
-      without-apart (f .deleted) (f .created) (apart-back (f .created) (f .deleted) (search parts)),
-      ← w,
-    )
+unfolding foldStep
+fold-nothing f h w = rw (append-nil (f .created), append-nil (f .modified), append-nil (f .deleted), ← w) (normal-same f h)
 
 -- ---- apart, by what is listed
 apart-if : (xs ys : List EntityRef) → ((a : EntityRef) → listed xs a ≡ true → listed ys a ≡ true → ⊥) → apart xs ys ≡ true

@@ -1,0 +1,2 @@
+pub mod RuleLines
+pub mod Group
