@@ -1,10 +1,10 @@
--- `geometry_replay::text::name_at` is safe and ends: the text's end comes nearer. Assumes nothing.
+-- `sample_text::name_at` is safe and ends: the text's end comes nearer. Assumes nothing.
 use lib.ListN.{length}
 use Prim.Native.Nat.{_-_}
 use borrow.Author.Needs.{needs}
 use native.Mathlib.Omega.{arith}
-use Rattle.geometry_replay.proofs.text.name_at.Statement.{statement}
-use Rattle.geometry_replay.proofs.text.name_at.Tie as tie
+use Rattle.sample_text.proofs.name_at.Statement.{statement}
+use Rattle.sample_text.proofs.name_at.Tie as tie
 
 abbrev Inv-loop : tie.InvT-loop
 Inv-loop text at value₀ i₀ value i = Unit

@@ -1,11 +1,11 @@
--- `geometry_replay::text::double_of` is safe: a pattern of at most that of infinity, but for the sign, is no NaN's. Assumes nothing.
+-- `sample_text::double_of` is safe: a pattern of at most that of infinity, but for the sign, is no NaN's. Assumes nothing.
 use borrow.Author.Tests.{le-ltb}
 use lib.Ieee.Bits.{nanBits-above}
 use lib.Ieee.{binary64}
 use Prim.Native.Nat.{_%_, _^_}
 use borrow.Author.Needs.{needs}
-use Rattle.geometry_replay.proofs.text.double_of.Statement.{statement}
-use Rattle.geometry_replay.proofs.text.double_of.Tie as tie
+use Rattle.sample_text.proofs.double_of.Statement.{statement}
+use Rattle.sample_text.proofs.double_of.Tie as tie
 
 returns : tie.Need-returns
 returns c = search needs

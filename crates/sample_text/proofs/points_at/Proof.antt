@@ -1,11 +1,11 @@
--- `geometry_replay::lines::points_at` meets its contract: a store keeps the array's length. Assumes nothing.
+-- `sample_text::points_at` meets its contract: a store keeps the array's length. Assumes nothing.
 use lib.ListN.{length, length-set}
 use mathlib.Core.Path.{_≡_, refl}
 use Prim.Native.Nat.{_-_}
 use borrow.Author.Needs.{needs}
 use native.Mathlib.Omega.{arith}
-use Rattle.geometry_replay.proofs.lines.points_at.Statement.{statement}
-use Rattle.geometry_replay.proofs.lines.points_at.Tie as tie
+use Rattle.sample_text.proofs.points_at.Statement.{statement}
+use Rattle.sample_text.proofs.points_at.Tie as tie
 
 abbrev Inv-loop : tie.InvT-loop
 Inv-loop text at count coords₀ next₀ n i₀ coords next i = 192 ≡ length coords

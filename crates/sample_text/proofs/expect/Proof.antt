@@ -1,8 +1,8 @@
--- `geometry_replay::text::expect` is safe: a number that equals itself is no NaN. Assumes nothing.
+-- `sample_text::expect` is safe: a number that equals itself is no NaN. Assumes nothing.
 use Rattle.geometry.proofs.Doubles.{no-nan}
 use borrow.Author.Needs.{needs}
-use Rattle.geometry_replay.proofs.text.expect.Statement.{statement}
-use Rattle.geometry_replay.proofs.text.expect.Tie as tie
+use Rattle.sample_text.proofs.expect.Statement.{statement}
+use Rattle.sample_text.proofs.expect.Tie as tie
 
 returns : tie.Need-returns
 returns c = search needs

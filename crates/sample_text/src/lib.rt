@@ -1,4 +1,8 @@
-// The words of the sample: doubles as 16 hexadecimal digits, numbers in decimal, names.
+// The words of stored samples, for the programs that replay them: numbers in decimal, doubles as 16 hexadecimal digits, names,
+// lists, points, bytes in pairs of digits. What a word says is shown by the replays; proved is that every text is read safely.
+pub mod bytes;
+
+ghost use mathlib.Core.Path.{_≡_};
 ghost use Prim.Native.Nat.{_≤_, _<_};
 ghost use lib.ListN.{length};
 
@@ -10,6 +14,13 @@ pub struct Word {
 
 pub struct Double {
     pub value: f64,
+    pub next: usize,
+}
+
+// The points of a request; a count of 65 stands for more than 64.
+pub struct Points {
+    pub coords: [f64; 192],
+    pub count: u64,
     pub next: usize,
 }
 
@@ -28,7 +39,7 @@ pub fn line_end(text: &[u8], at: usize) -> usize
     i
 }
 
-fn digit(b: u8) -> u64 {
+pub fn digit(b: u8) -> u64 {
     let d = b as u64;
     if d < 58 { d % 16 } else { d % 16 + 9 }
 }
@@ -77,7 +88,7 @@ pub fn name_at(text: &[u8], at: usize) -> Word {
     Word { value, next: i }
 }
 
-fn letter(b: u8) -> u64 {
+pub fn letter(b: u8) -> u64 {
     b as u64
 }
 
@@ -94,6 +105,35 @@ pub fn double_at(text: &[u8], at: usize) -> Double {
     Double {
         value: double_of(w.value),
         next: w.next,
+    }
+}
+
+pub fn points_at(text: &[u8], at: usize) -> Points
+    ensures { λ r. ⌜ 192 ≡ length (r .coords) ⌝ }
+{
+    let w = number_at(text, at);
+    let count = w.value;
+    let mut coords = [0.0; 192];
+    let mut next = w.next;
+    if count > 64 {
+        return Points {
+            coords,
+            count: 65,
+            next,
+        };
+    }
+    let n = count as usize * 3;
+    let mut i = 0;
+    while i < n {
+        let d = double_at(text, next);
+        coords[i] = d.value;
+        next = d.next;
+        i += 1;
+    }
+    Points {
+        coords,
+        count,
+        next,
     }
 }
 
