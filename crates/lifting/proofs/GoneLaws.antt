@@ -15,12 +15,13 @@ use Rattle.geometry.specs.Polyline.{Polyline}
 use Rattle.rows.specs.Lists.{listTo, joined, total}
 use Rattle.rows.proofs.Indexed.{length-listTo}
 use Rattle.codec.specs.Format.{both}
-use Rattle.store.specs.Layout.{limitOf, countOf, rowOf, coordsOf, recordsOf}
+use Rattle.store.specs.Layout.{countOf, rowOf, coordsOf, recordsOf}
 use Rattle.map.specs.declared.RuleHead.{RuleHead}
 use Rattle.map.specs.Record.{RuleBody, sign, Rule}
 use Rattle.map.specs.Ceilings.{sizeOf, ifThere, lineWithin, bodyWithin, ruleWithin, bodyPoints, rulePoints}
 use Rattle.map.specs.Tables.{flagAt, lineAt, bodyOf, ruleIn, mapOf}
 use Rattle.map.specs.Access.{HeadRead}
+use Rattle.map.proofs.UpdateLaws.{rule-limit}
 use Rattle.map.proofs.Parts.{rules-within}
 use Rattle.map.proofs.SoundLaws.{Sound, record-at}
 use Rattle.place.specs.Readable.{ReadableWords}
@@ -130,12 +131,8 @@ pub joined-next : {B : Type 0} (f : Rule → List B) (ws : List ℕ) (cs : List 
 unfolding listTo
 joined-next f ws cs i = rw (add-one i) (joined-more f (firstRules ws cs i) (ruleIn (rowOf ws 5 i) (coordsOf cs 5 i)))
 
-rule-many : limitOf 5 ≡ 128
-unfolding limitOf
-rule-many = refl
-
 pub rules-few : (ws : List ℕ) → ReadableWords ws → countOf ws 5 ≤ 128
-rules-few ws ok = omega (arith, ok .sized .counts 5 (omega arith), rule-many)
+rules-few ws ok = omega (arith, ok .sized .counts 5 (omega arith), rule-limit)
 
 pub record Freeing (ws : List ℕ) (s : ℕ) (lanes : List ℕ) (n i rules points : ℕ) : Type 0 where
   pub within : i ≤ n

@@ -16,7 +16,7 @@ use Rattle.rows.specs.Lists.{keep, member, noEntries}
 use Rattle.store.specs.Layout.{SizedWords, countOf, rowOf}
 use Rattle.rows.proofs.Indexed.{length-listTo}
 use Rattle.place.specs.Readable.{ReadableWords}
-use Rattle.edit.proofs.RuleLaws.{rule-there, rule-lanes}
+use Rattle.map.proofs.UpdateLaws.{rule-limit}
 use Rattle.map.specs.declared.RuleHead.{RuleHead}
 use Rattle.map.specs.declared.Entries.{Entries}
 use Rattle.map.specs.Record.{RuleBody, sign}
@@ -179,11 +179,11 @@ module _ (ws : List ℕ) (i s : ℕ) (lanes ls : List ℕ) (el : ls ≡ listAt (
 -- ---- what the readers ask
 
 module _ (ws : List ℕ) (ok : ReadableWords ws) (i : ℕ) (hi : i < countOf ws 5) where
-  pub list-asks : SizedWords ws × (i < 128) × (7 + 1 + getD (rowOf ws 5 i) 7 0 ≤ 92)
-  list-asks = rule-lanes ws ok i 0 hi
-
   pub head-asks : SizedWords ws × (i < 128)
-  head-asks = rule-there ws ok i 0 hi
+  head-asks = let k = ok .sized .counts 5 (omega arith) in (ok .sized, omega (arith, rule-limit))
+
+  pub list-asks : SizedWords ws × (i < 128) × (7 + 1 + getD (rowOf ws 5 i) 7 0 ≤ 92)
+  list-asks = let k = ok .lanes i hi in (ok .sized, head-asks .1, omega arith)
 
   pub list-short : (ls : List ℕ) → ls ≡ listAt (rowOf ws 5 i) 7 → length ls ≤ 16
   unfolding listAt

@@ -1,4 +1,7 @@
 // What a light lifts from its line: stop signs and markings there lose the call's lanes, and go where none is left.
+pub mod apply; // apply.rt: taken from the tables
+pub mod note; // note.rt: noted in a change set
+
 use map::Entries;
 use map::RuleHead;
 use map::lookup;
