@@ -6,7 +6,6 @@ use crate::points::expect3;
 use crate::text::double_at;
 use crate::text::expect;
 use crate::text::expect_number;
-use crate::text::number_at;
 use centerline::Line;
 use centerline::Stations;
 use geometry::Location;
@@ -15,6 +14,7 @@ use geometry::MaybeNearest;
 use geometry::MaybePoint3;
 use geometry::NearestPoint;
 use geometry::Point2;
+use sample::number_at;
 ghost use mathlib.Core.Path.{_≡_};
 ghost use lib.ListN.{length};
 

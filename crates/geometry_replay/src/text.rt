@@ -1,84 +1,11 @@
-// The words of the sample: doubles as 16 hexadecimal digits, numbers in decimal, names.
-ghost use Prim.Native.Nat.{_≤_, _<_};
-ghost use lib.ListN.{length};
-
-// What a word says, and where the next one starts.
-pub struct Word {
-    pub value: u64,
-    pub next: usize,
-}
+// Doubles in the sample, as 16 hexadecimal digits, and the stored answers.
+use sample::hex_at;
+use sample::name_at;
+use sample::number_at;
 
 pub struct Double {
     pub value: f64,
     pub next: usize,
-}
-
-// Past the end of the line.
-pub fn line_end(text: &[u8], at: usize) -> usize
-    requires { ⌜ at < length (now text) ⌝ }
-    ensures { λ r. ⌜ (at < r) × (r ≤ length (now (text .entry))) ⌝ }
-{
-    let mut i = at;
-    while i < text.len() {
-        if text[i] == 10 {
-            return i + 1;
-        }
-        i += 1;
-    }
-    i
-}
-
-fn digit(b: u8) -> u64 {
-    let d = b as u64;
-    if d < 58 { d % 16 } else { d % 16 + 9 }
-}
-
-pub fn hex_at(text: &[u8], at: usize) -> Word {
-    let mut value = 0u64;
-    let mut i = at;
-    while i < text.len() {
-        let b = text[i];
-        if b <= 32 {
-            return Word { value, next: i + 1 };
-        }
-        value = (value << 4) | digit(b);
-        i += 1;
-    }
-    Word { value, next: i }
-}
-
-pub fn number_at(text: &[u8], at: usize) -> Word {
-    let mut value = 0u64;
-    let mut i = at;
-    while i < text.len() {
-        let b = text[i];
-        if b <= 32 {
-            return Word { value, next: i + 1 };
-        }
-        let ten = std::num::wrapping_add_u64(value << 3, value << 1);
-        value = std::num::wrapping_add_u64(ten, digit(b));
-        i += 1;
-    }
-    Word { value, next: i }
-}
-
-// The last eight letters of a name, which tell the functions apart.
-pub fn name_at(text: &[u8], at: usize) -> Word {
-    let mut value = 0u64;
-    let mut i = at;
-    while i < text.len() {
-        let b = text[i];
-        if b <= 32 {
-            return Word { value, next: i + 1 };
-        }
-        value = (value << 8) | letter(b);
-        i += 1;
-    }
-    Word { value, next: i }
-}
-
-fn letter(b: u8) -> u64 {
-    b as u64
 }
 
 // Every NaN pattern is a NaN.

@@ -1,10 +1,10 @@
--- `geometry_replay::text::hex_at` is safe and ends: the text's end comes nearer. Assumes nothing.
+-- `sample::name_at` is safe and ends: the text's end comes nearer. Assumes nothing.
 use lib.ListN.{length}
 use Prim.Native.Nat.{_-_}
 use borrow.Author.Needs.{needs}
 use native.Mathlib.Omega.{arith}
-use Rattle.geometry_replay.proofs.text.hex_at.Statement.{statement}
-use Rattle.geometry_replay.proofs.text.hex_at.Tie as tie
+use Rattle.sample.proofs.name_at.Statement.{statement}
+use Rattle.sample.proofs.name_at.Tie as tie
 
 abbrev Inv-loop : tie.InvT-loop
 Inv-loop text at value₀ i₀ value i = Unit
@@ -24,8 +24,8 @@ add-t10 c = omega arith
 returns : tie.Need-returns Inv-loop μ-loop
 returns c = tt
 
-digit-requires : tie.Need-digit-requires Inv-loop μ-loop
-digit-requires c κs = search needs
+letter-requires : tie.Need-letter-requires Inv-loop μ-loop
+letter-requires c κs = search needs
 
 add-i : tie.Need-add-i Inv-loop μ-loop
 add-i c = omega arith
@@ -39,8 +39,8 @@ loop-again c = tt
 returns-2 : tie.Need-returns-2 Inv-loop μ-loop
 returns-2 c = tt
 
-pub hex-at-spec : {M : Type 1} → statement M
-hex-at-spec =
+pub name-at-spec : {M : Type 1} → statement M
+name-at-spec =
     tie.close
     (tie.spec
     Inv-loop
@@ -49,7 +49,7 @@ hex-at-spec =
     shared-slice-read-b
     add-t10
     returns
-    digit-requires
+    letter-requires
     add-i
     loop-less
     loop-again

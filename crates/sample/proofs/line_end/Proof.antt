@@ -1,9 +1,9 @@
--- `geometry_replay::text::line_end` meets its contract: the text's end comes nearer. Assumes nothing.
+-- `sample::line_end` meets its contract: the text's end comes nearer. Assumes nothing.
 use lib.ListN.{length}
 use Prim.Native.Nat.{_-_, _≤_}
 use native.Mathlib.Omega.{arith}
-use Rattle.geometry_replay.proofs.text.line_end.Statement.{statement}
-use Rattle.geometry_replay.proofs.text.line_end.Tie as tie
+use Rattle.sample.proofs.line_end.Statement.{statement}
+use Rattle.sample.proofs.line_end.Tie as tie
 
 abbrev Inv-loop : tie.InvT-loop
 Inv-loop text at i₀ i = (at ≤ i) × (i ≤ length text)

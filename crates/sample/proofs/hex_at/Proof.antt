@@ -1,10 +1,10 @@
--- `geometry_replay::text::number_at` is safe and ends: the text's end comes nearer. Assumes nothing.
+-- `sample::hex_at` is safe and ends: the text's end comes nearer. Assumes nothing.
 use lib.ListN.{length}
 use Prim.Native.Nat.{_-_}
 use borrow.Author.Needs.{needs}
 use native.Mathlib.Omega.{arith}
-use Rattle.geometry_replay.proofs.text.number_at.Statement.{statement}
-use Rattle.geometry_replay.proofs.text.number_at.Tie as tie
+use Rattle.sample.proofs.hex_at.Statement.{statement}
+use Rattle.sample.proofs.hex_at.Tie as tie
 
 abbrev Inv-loop : tie.InvT-loop
 Inv-loop text at value₀ i₀ value i = Unit
@@ -18,20 +18,14 @@ loop-holds c = tt
 shared-slice-read-b : tie.Need-shared-slice-read-b Inv-loop μ-loop
 shared-slice-read-b c = omega arith
 
-add-t11 : tie.Need-add-t11 Inv-loop μ-loop
-add-t11 c = omega arith
+add-t10 : tie.Need-add-t10 Inv-loop μ-loop
+add-t10 c = omega arith
 
 returns : tie.Need-returns Inv-loop μ-loop
 returns c = tt
 
-wrapping-add-u64-requires : tie.Need-wrapping-add-u64-requires Inv-loop μ-loop
-wrapping-add-u64-requires c κs = search needs
-
 digit-requires : tie.Need-digit-requires Inv-loop μ-loop
 digit-requires c κs = search needs
-
-wrapping-add-u64-requires-2 : tie.Need-wrapping-add-u64-requires-2 Inv-loop μ-loop
-wrapping-add-u64-requires-2 c κs = search needs
 
 add-i : tie.Need-add-i Inv-loop μ-loop
 add-i c = omega arith
@@ -45,19 +39,17 @@ loop-again c = tt
 returns-2 : tie.Need-returns-2 Inv-loop μ-loop
 returns-2 c = tt
 
-pub number-at-spec : {M : Type 1} → statement M
-number-at-spec =
+pub hex-at-spec : {M : Type 1} → statement M
+hex-at-spec =
     tie.close
     (tie.spec
     Inv-loop
     μ-loop
     loop-holds
     shared-slice-read-b
-    add-t11
+    add-t10
     returns
-    wrapping-add-u64-requires
     digit-requires
-    wrapping-add-u64-requires-2
     add-i
     loop-less
     loop-again
