@@ -1,13 +1,16 @@
--- Laws of the fold over the definitions: an empty set alters nothing, and the lists of a fold are apart.
+-- Laws of the fold over the definitions: an empty set alters nothing, the lists of a fold are apart, and how long they are.
 use mathlib.Core.Path.{_≡_, refl, sym, ap, ap₂, _∙_}
 use mathlib.Core.Bool.{Bool, true, false, not, _&&_, cond}
 use mathlib.Core.List.{List, [], _∷_, _++_, append-nil}
+use Prim.Native.Nat.{_+_, _≤_}
+use native.Mathlib.Omega.{arith}
+use lib.ListN.{length, length-append}
 use Rattle.rows.specs.Lists.{every, keep, noEntries}
 use Rattle.rows.proofs.Bools.{parts, and-i, and-l, and-r, clash}
 use Rattle.map.specs.Entity.{EntityRef, listed}
 use Rattle.changes.specs.ChangeSet.{Warning, ChangeSet, noChanges, sortRefs, without, normalize, foldStep}
 use Rattle.changes.specs.ChangeFile.{risingRefs, entries, apart, listsApart, listsOk}
-use Rattle.changes.proofs.Refs.{listed-keep, listed-sort, every-listed, listed-every, sort-rising, rising-same}
+use Rattle.changes.proofs.Refs.{listed-keep, listed-sort, every-listed, listed-every, sort-rising, rising-same, length-sort, length-without}
 use Rattle.changes.proofs.EntryLaws.{entries-rise}
 
 pub sort-sorted : (xs : List EntityRef) → risingRefs xs ≡ true → sortRefs xs ≡ xs
@@ -91,3 +94,31 @@ normal-apart c =
 pub fold-apart : (f c : ChangeSet) → listsApart (foldStep f c) ≡ true
 unfolding foldStep
 fold-apart f c = normal-apart _
+
+-- ---- counts: no list of a normalized set is longer than it was, and none of a fold longer than its two parts
+pub normal-counts : (c : ChangeSet)
+    → (length (normalize c .created) ≤ length (c .created)) × (length (normalize c .modified) ≤ length (c .modified)) × (length (normalize c .deleted) ≤ length (c .deleted))
+unfolding normalize
+normal-counts c =
+    let a = length-without (sortRefs (c .created)) (c .deleted) in
+    let b = length-sort (c .created) in
+    let d = length-without (without (sortRefs (c .modified)) (c .created)) (c .deleted) in
+    let e = length-without (sortRefs (c .modified)) (c .created) in
+    let f = length-sort (c .modified) in
+    let g = length-without (sortRefs (c .deleted)) (c .created) in
+    let h = length-sort (c .deleted) in
+    (omega arith, omega arith, omega arith)
+
+pub fold-counts : (f c : ChangeSet)
+    → (length (foldStep f c .created) ≤ length (f .created) + length (c .created)) × (length (foldStep f c .modified) ≤ length (f .modified) + length (c .modified))
+    × (length (foldStep f c .deleted) ≤ length (f .deleted) + length (c .deleted))
+unfolding foldStep
+fold-counts f c =
+    let n = normal-counts (record { created = f .created ++ c .created; modified = f .modified ++ c .modified; deleted = f .deleted ++ c .deleted; warnings = [] }) in
+    let a = length-append (f .created) (c .created) in
+    let b = length-append (f .modified) (c .modified) in
+    let d = length-append (f .deleted) (c .deleted) in
+    let x = n .0 in
+    let y = n .1 in
+    let z = n .2 in
+    (omega arith, omega arith, omega arith)

@@ -2,7 +2,7 @@
 use mathlib.Core.Path.{_≡_, refl, sym, ap₂, subst}
 use mathlib.Core.Bool.{Bool, true, false, not, _&&_, _||_, cond, or-assoc}
 use mathlib.Core.List.{List, [], _∷_, _++_}
-use Prim.Native.Nat.{ℕ, suc, _+_, _<_, compare, Ordering, Ordering·lt, Ordering·eq, Ordering·gt}
+use Prim.Native.Nat.{ℕ, suc, _+_, _≤_, _<_, compare, Ordering, Ordering·lt, Ordering·eq, Ordering·gt}
 use lib.ListN.{length}
 use lib.Dec.{eqb}
 use native.Mathlib.Omega.{arith}
@@ -11,7 +11,7 @@ use Rattle.rows.specs.Lists.{every, keep, byOrder}
 use Rattle.rows.proofs.Bools.{parts, and-i, clash, agree, is-lt, is-eq, is-gt, lt-is, eq-is, and-no, or-r}
 use Rattle.map.specs.Entity.{EntityRef, entity, compareRefs, sameRef, listed}
 use Rattle.changes.specs.ChangeFile.{isBefore, riseAfter, risingRefs}
-use Rattle.changes.specs.ChangeSet.{insertRef, sortRefs}
+use Rattle.changes.specs.ChangeSet.{insertRef, sortRefs, without}
 
 -- ---- the same reference
 
@@ -270,3 +270,22 @@ keep-count p (x ∷ xs) = go (p x) (keep-count p xs)
         → length (cond b (x ∷ keep p xs) (keep p xs)) + length (cond (not b) (x ∷ keep (λ a. not (p a)) xs) (keep (λ a. not (p a)) xs)) ≡ suc (length xs)
     go true h = omega arith
     go false h = omega arith
+
+pub length-without : (xs ys : List EntityRef) → length (without xs ys) ≤ length xs
+unfolding without
+length-without xs ys = let u = keep-count (λ a. not (listed ys a)) xs in omega arith
+
+pub length-insert : (a : EntityRef) (xs : List EntityRef) → length (insertRef a xs) ≤ suc (length xs)
+unfolding insertRef
+length-insert a [] = omega arith
+length-insert a (x ∷ xs) = go (compareRefs a x) (length-insert a xs)
+  where
+    go : (o : Ordering) → length (insertRef a xs) ≤ suc (length xs) → length (byOrder o (a ∷ x ∷ xs) (x ∷ xs) (x ∷ insertRef a xs)) ≤ suc (suc (length xs))
+    go Ordering·lt h = omega arith
+    go Ordering·eq h = omega arith
+    go Ordering·gt h = omega arith
+
+pub length-sort : (xs : List EntityRef) → length (sortRefs xs) ≤ length xs
+unfolding sortRefs
+length-sort [] = omega arith
+length-sort (x ∷ xs) = let u = length-insert x (sortRefs xs) in let v = length-sort xs in omega arith

@@ -17,10 +17,6 @@ use Rattle.changes.proofs.EntryLaws.{length-refs}
 use Rattle.changes.proofs.WrittenLaws.{length-written, to-written, to-before, to-past}
 
 -- ---- without
-pub length-without : (xs ys : List EntityRef) → length (without xs ys) ≤ length xs
-unfolding without
-length-without xs ys = let u = keep-count (λ a. not (listed ys a)) xs in omega arith
-
 pub without-rises : (xs ys : List EntityRef) → risingRefs xs ≡ true → risingRefs (without xs ys) ≡ true
 unfolding without
 without-rises xs ys h = keep-rising (λ a. not (listed ys a)) xs h

@@ -11,11 +11,11 @@ use Rattle.changes.specs.ChangeFile.{maxEntries, risingRefs}
 use Rattle.changes.specs.ChangeSet.{insertRef, sortRefs, without}
 use Rattle.changes.specs.Layout.{setWords, fromOf, countIn, listIn, refsAt}
 use Rattle.changes.specs.Walk.{refsTo, Walks, written, Put}
-use Rattle.changes.proofs.Refs.{sort-rising}
+use Rattle.changes.proofs.Refs.{sort-rising, length-sort, length-without}
 use Rattle.changes.proofs.EntryLaws.{refs-at, length-refs}
 use Rattle.sets.specs.declared.Counts.{Counts}
 use Rattle.sets.specs.Tables.{Roomy, putList, Fits, createdIn, modifiedIn, deletedIn, Joins, United, Rises, Settled}
-use Rattle.sets.proofs.ListLaws.{length-without, without-rises, without-again, length-to, put-size, put-list, put-before, put-past}
+use Rattle.sets.proofs.ListLaws.{without-rises, without-again, length-to, put-size, put-list, put-before, put-past}
 
 -- ---- a list written into a table
 pub list-put : (f t : List ℕ) (l e n r : ℕ) (f′ : List ℕ) → Put f (fromOf l) (refsTo t e n) r f′ → set f′ l n ≡ putList f l (refsTo t e n)
@@ -44,21 +44,6 @@ module _ (f : List ℕ) (l a : ℕ) (h : Fits f) (k : l < 3) (e : a ≡ getD f l
       record { starts = omega arith; ends = omega arith; rises = rw walked (h .rises l k) }
 
 -- ---- united
-pub length-insert : (a : EntityRef) (xs : List EntityRef) → length (insertRef a xs) ≤ suc (length xs)
-unfolding insertRef
-length-insert a [] = omega arith
-length-insert a (x ∷ xs) = go (compareRefs a x) (length-insert a xs)
-  where
-    go : (o : Ordering) → length (insertRef a xs) ≤ suc (length xs) → length (byOrder o (a ∷ x ∷ xs) (x ∷ xs) (x ∷ insertRef a xs)) ≤ suc (suc (length xs))
-    go Ordering·lt h = omega arith
-    go Ordering·eq h = omega arith
-    go Ordering·gt h = omega arith
-
-pub length-sort : (xs : List EntityRef) → length (sortRefs xs) ≤ length xs
-unfolding sortRefs
-length-sort [] = omega arith
-length-sort (x ∷ xs) = let u = length-insert x (sortRefs xs) in let v = length-sort xs in omega arith
-
 pub length-in : (f : List ℕ) (l : ℕ) → length (listIn f l) ≡ countIn f l
 unfolding listIn
 length-in f l = length-refs f (fromOf l) (countIn f l)
