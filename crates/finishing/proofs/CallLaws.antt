@@ -12,6 +12,7 @@ use Rattle.rows.specs.Lists.{every}
 use Rattle.rows.proofs.Bools.{parts, and-i}
 use Rattle.refusal.specs.Answer.{Answer, refused, done, refusedAs, _>>=_, _>>_, refuseWhen}
 use Rattle.refusal.specs.declared.Refusal.{Refusal}
+use Rattle.refusal.specs.declared.Refusal.the-variants as e
 use Rattle.geometry.specs.Point.{pointOnMap}
 use Rattle.map.specs.Record.{Map}
 use Rattle.map.specs.Ceilings.{withinCeilings}
@@ -28,6 +29,7 @@ use Rattle.placing.specs.Answers.{checked}
 use Rattle.edit.specs.declared.Called.the-variants as c
 use Rattle.edit.specs.Edit.{Draft, Outcome, finish, call}
 use Rattle.edit.specs.Lent.{Lent, stateOf, lentCall, answered, isRefused, CallLeft}
+use Rattle.finishing.proofs.FreshLaws.{FoldBelow, fold-below}
 use Rattle.finishing.specs.Finish.{lentChecks, planned, settled, steps, FoldSettled}
 
 -- what a call that is carried out answers
@@ -90,6 +92,7 @@ pub record LentFine (l : Lent) : Type 0 where
   pub tables : isMapTables (l .words) (l .coords) ≡ true
   pub fold : listsOkIn (l .fold) ≡ true
   pub set : length (l .set) ≡ setWords
+  pub below : FoldBelow (mapOf (l .words) (l .coords) .next) (changeSetOf (l .fold))
 
 pub lent-fine : (l : Lent) → lentChecks l ≡ done tt → LentFine l
 unfolding lentChecks listsOkIn
@@ -100,6 +103,7 @@ lent-fine l h =
       tables = a .0;
       fold = and-i (eqb (length (l .fold)) setWords) (listsOk (changeSetOf (l .fold))) (search parts) (search parts);
       set = eqb-true (length (l .set)) setWords (search parts);
+      below = fold-below (stateOf l) (search parts) (search parts);
     }
   where
     go : (t u : Bool) → (refuseWhen (not t) 12 [] >> refuseWhen (not u) 13 []) ≡ done tt → (t ≡ true) × (u ≡ true)
@@ -149,19 +153,61 @@ module _ (edit : Map → Answer Draft) (l : Lent) where
     kept = λ q. absurd (let y : _≡_ {A = ℕ} 0 1 = cc in omega arith);
   }
 
-  -- ---- the last step: a table t with the draft's changes, settled
+  -- ---- the last step: a table t settled. It has the draft's changes, or at least as many, so that the fold fits alike
 
   module _ (fine : lentChecks l ≡ done tt) (d : Draft) (plan : planned edit (mapOf (l .words) (l .coords)) ≡ done d)
-      (t : List ℕ) (et : changeSetOf t ≡ d .changes) (late : Bool) (el : late ≡ leb (2 ^ 64) (d .map .next)) (r : Checked) (f′ t′ : List ℕ) (h : FoldSettled (l .fold) t late r f′ t′) where
-    same-answer : checked r ≡ settled (changeSetOf (l .fold)) (normalize (d .changes)) (leb (2 ^ 64) (d .map .next))
-    same-answer = rw (← et, ← el) (h .answer)
-
-    pub last-refused : (x : Refusal) → r ≡ k.Refused x
+      (t : List ℕ) (late : Bool) (el : late ≡ leb (2 ^ 64) (d .map .next)) (r : Checked) (f′ t′ : List ℕ) (h : FoldSettled (l .fold) t late r f′ t′) where
+    pub last-refused : foldFits (foldStep (changeSetOf (l .fold)) (normalize (changeSetOf t))) ≡ foldFits (foldStep (changeSetOf (l .fold)) (normalize (d .changes))) → (x : Refusal) → r ≡ k.Refused x
         → CallLeft (call edit) l (c.Refused x) (record { words = l .words; coords = l .coords; fold = f′; tally = l .tally; set = l .set })
-    last-refused x q = call-refused x (settle-refused fine d plan x (sym same-answer ∙ ap checked q)) _ (rw (h .kept x q))
+    unfolding settled
+    last-refused q x e = call-refused x (settle-refused fine d plan x (rw (← q, ← el) (sym (h .answer) ∙ ap checked e))) _ (rw (h .kept x e))
 
-    pub last-done : r ≡ k.Fine → (ws : List ℕ) (cs : List Float) (tally : Tally) (s : List ℕ) (n : ℕ) → mapOf ws cs ≡ d .map → tally ≡ tallyOf (changeSetOf f′)
+    pub last-done : changeSetOf t ≡ d .changes → r ≡ k.Fine → (ws : List ℕ) (cs : List Float) (tally : Tally) (s : List ℕ) (n : ℕ) → mapOf ws cs ≡ d .map → tally ≡ tallyOf (changeSetOf f′)
         → changeSetOf s ≡ changeSetOf t′ → n ≡ d .id → CallLeft (call edit) l (c.Done n) (record { words = ws; coords = cs; fold = f′; tally = tally; set = s })
-    last-done q ws cs tally s n a b e i =
-        call-done d (carried-out fine d plan (sym same-answer ∙ ap checked q)) (record { words = ws; coords = cs; fold = f′; tally = tally; set = s }) n a
+    last-done et q ws cs tally s n a b e i =
+        call-done d (carried-out fine d plan (rw (← et, ← el) (sym (h .answer) ∙ ap checked q))) (record { words = ws; coords = cs; fold = f′; tally = tally; set = s }) n a
         (h .fold q ∙ ap (λ (x : ChangeSet). foldStep (changeSetOf (l .fold)) (normalize x)) et) b (e ∙ h .set ∙ ap normalize et) i
+
+-- where nothing refuses, numbers are left
+pub not-late : (f t : List ℕ) (late : Bool) (r : Checked) (f′ t′ : List ℕ) → FoldSettled f t late r f′ t′ → r ≡ k.Fine → late ≡ false
+unfolding settled
+not-late f t late r f′ t′ h q = go (foldFits (foldStep (changeSetOf f) (normalize (changeSetOf t)))) late (sym (h .answer) ∙ ap checked q)
+  where
+    go : (b z : Bool) → (refuseWhen (not b) 10 [] >> refuseWhen z 11 []) ≡ done tt → z ≡ false
+    go true true e = absurd (let y : _≡_ {A = ℕ} 0 1 = cc in omega arith)
+    go true false e = refl
+    go false z e = absurd (let y : _≡_ {A = ℕ} 0 1 = cc in omega arith)
+
+-- ---- a plan
+
+module _ (edit : Map → Answer Draft) (m : Map) where
+  pub edit-refused : (x : Refusal) → edit m ≡ refusedAs x → planned edit m ≡ refusedAs x
+  unfolding planned
+  edit-refused x h = rw h
+
+  module _ (d : Draft) (h : edit m ≡ done d) where
+    pub plan-off : every pointOnMap (d .stored) ≡ false → planned edit m ≡ refusedAs e.OffTheMap
+    unfolding planned
+    plan-off p = rw (h, p)
+
+    pub plan-full : every pointOnMap (d .stored) ≡ true → withinCeilings (d .map) ≡ false → planned edit m ≡ refusedAs e.Full
+    unfolding planned
+    plan-full p w = rw (h, p, w)
+
+    pub plan-done : every pointOnMap (d .stored) ≡ true → withinCeilings (d .map) ≡ true → planned edit m ≡ done d
+    unfolding planned
+    plan-done p w = rw (h, p, w)
+
+  -- the end map of a plan is within its ceilings
+  pub plan-within : (d : Draft) → planned edit m ≡ done d → withinCeilings (d .map) ≡ true
+  unfolding planned
+  plan-within d h = go (edit m) h
+    where
+      test : (p w : Bool) (a : Draft) → (refuseWhen (not p) 9 [] >> (refuseWhen (not w) 10 [] >> done a)) ≡ done d → (w ≡ true) × (a ≡ d)
+      test true true a e = (refl, cc)
+      test true false a e = absurd (let y : _≡_ {A = ℕ} 0 1 = cc in omega arith)
+      test false w a e = absurd (let y : _≡_ {A = ℕ} 0 1 = cc in omega arith)
+
+      go : (a : Answer Draft) → (a >>= λ x. refuseWhen (not (every pointOnMap (x .stored))) 9 [] >> (refuseWhen (not (withinCeilings (x .map))) 10 [] >> done x)) ≡ done d → withinCeilings (d .map) ≡ true
+      go (refused n ds) e = absurd (let y : _≡_ {A = ℕ} 0 1 = cc in omega arith)
+      go (done x) e = let t = test (every pointOnMap (x .stored)) (withinCeilings (x .map)) x e in rw (t .1) at (t .0)

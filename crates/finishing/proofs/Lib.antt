@@ -2,4 +2,6 @@ pub mod LentLaws
 pub mod SettleLaws
 pub mod CopyLaws
 pub mod CeilingLaws
+pub mod StoredLaws
+pub mod FreshLaws
 pub mod CallLaws

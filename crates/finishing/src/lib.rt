@@ -1,8 +1,11 @@
 // What every call begins and ends with: the tests of what it is lent, and the draft's change set settled with the running fold, and answered.
 ghost use mathlib.Core.Path.{_≡_};
 ghost use mathlib.Core.Bool.{true};
-ghost use Prim.Native.Nat.{_<_};
+ghost use Prim.Native.Nat.{_%_, _<_};
 ghost use lib.ListN.{length};
+ghost use Rattle.rows.specs.Lists.{every};
+ghost use Rattle.geometry.specs.Point.{pointOnMap};
+ghost use Rattle.geometry.specs.Polyline.{polylineOf};
 ghost use Rattle.changes.specs.Layout.{setWords, listIn, changeSetOf, listsOkIn};
 ghost use Rattle.sets.specs.Tables.{Roomy, putList};
 ghost use Rattle.placing.specs.Answers.{checked};
@@ -27,6 +30,14 @@ pub fn check_lent(words: &[u64], coords: &[f64], fold: &[u64], tally: Tally, set
         return Checked::Refused(Refusal::BadSet);
     }
     Checked::Fine
+}
+
+// Whether all points of a polyline that is to be stored lie on the map: it is 9 otherwise.
+pub fn stored_ok(points: &[f64]) -> bool
+    requires { ⌜ length (now points) % 3 ≡ 0 ⌝ }
+    ensures { λ r. ⌜ r ≡ every pointOnMap (polylineOf (now (points .entry))) ⌝ }
+{
+    placing::lists::all_on_map(points)
 }
 
 // The draft is normalized and taken into the fold: 10 where a list of the fold would be too long, then 11. On a refusal the fold is as it was.
