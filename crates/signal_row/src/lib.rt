@@ -1,0 +1,222 @@
+// A new signal: its lamps, given or standard, its row of the tables, and the tests of what is stored of it.
+use centerline::Line;
+use edit::Bulbs;
+use edit::Height;
+use edit::SignalBulb;
+use edit::SignalRequest;
+use geometry::MaybePoint3;
+use geometry::Point3;
+use lighting::housings::fraction_of;
+use map::BulbArrow;
+use map::BulbColor;
+use map::SignalKind;
+use map::bulb_arrow_number;
+use map::bulb_color_number;
+use map::signal_kind_number;
+ghost use mathlib.Core.Path.{_≡_};
+ghost use Prim.Native.Nat.{_≤_};
+ghost use lib.Ieee.{Float};
+ghost use Rattle.rows.specs.Lists.{orDefault};
+ghost use Rattle.centerline.specs.Line.{pointsOf};
+ghost use Rattle.place.specs.Values.{Roomy};
+ghost use Rattle.edit.specs.Light.{defaultHeight, defaultBulbs};
+ghost use Rattle.edit.specs.Request.{heightGiven, noBulb};
+ghost use Rattle.signal_row.specs.Row.{bulbPlace, BulbMade, storedBulbs, BulbsRead, BulbWords, RowMade, bulbsOnMap};
+
+// The words of a signal's row, and its coordinates after the housing: its height and its lamps' positions.
+pub struct SignalRow {
+    pub words: [u64; 13],
+    pub more: [f64; 13],
+}
+
+// The numbers of a lamp's colour and arrow.
+pub struct BulbNumbers {
+    pub color: u64,
+    pub arrow: u64,
+}
+
+// The standard height is half a metre.
+pub fn height_of(h: Height) -> f64
+    ensures { λ r. ⌜ r ≡ orDefault (heightGiven h) defaultHeight ⌝ }
+{
+    let Height::Metres(x) = h else {
+        return 0.5;
+    };
+    x
+}
+
+// The middle of the housing's part i of n, raised by half the height.
+fn bulb_place(housing: Line, height: f64, i: usize, n: usize) -> Point3
+    requires { ⌜ Roomy housing × (i ≤ 4) × (n ≤ 4) ⌝ }
+    ensures { λ r. ⌜ r ≡ bulbPlace (pointsOf housing) height i n ⌝ }
+{
+    let t = (i as f64 + 0.5) / n as f64;
+    let MaybePoint3::At(p) = fraction_of(housing, t) else {
+        return Point3 {
+            x: 0.0,
+            y: 0.0,
+            z: 0.0 + height / 2.0,
+        };
+    };
+    Point3 {
+        x: p.x,
+        y: p.y,
+        z: p.z + height / 2.0,
+    }
+}
+
+fn standard_bulb(housing: Line, height: f64, i: usize, n: usize, color: BulbColor) -> SignalBulb
+    requires { ⌜ Roomy housing × (i ≤ 4) × (n ≤ 4) ⌝ }
+    ensures { λ r. ⌜ BulbMade (pointsOf housing) height i n color r ⌝ }
+{
+    SignalBulb {
+        position: bulb_place(housing, height, i, n),
+        color,
+        arrow: BulbArrow::NoArrow,
+    }
+}
+
+fn no_bulb() -> SignalBulb
+    ensures { λ r. ⌜ r ≡ noBulb ⌝ }
+{
+    SignalBulb {
+        position: Point3 {
+            x: 0.0,
+            y: 0.0,
+            z: 0.0,
+        },
+        color: BulbColor::Red,
+        arrow: BulbArrow::NoArrow,
+    }
+}
+
+// Green, yellow and red, evenly along the housing; a pedestrian's light has no yellow.
+fn standard_bulbs(kind: SignalKind, housing: Line, height: f64) -> Bulbs
+    requires { ⌜ Roomy housing ⌝ }
+    ensures { λ r. ⌜ storedBulbs r ≡ defaultBulbs kind (pointsOf housing) height ⌝ }
+{
+    let none = no_bulb();
+    match kind {
+        SignalKind::Vehicle => {
+            let a = standard_bulb(housing, height, 0, 3, BulbColor::Green);
+            let b = standard_bulb(housing, height, 1, 3, BulbColor::Yellow);
+            let c = standard_bulb(housing, height, 2, 3, BulbColor::Red);
+            Bulbs {
+                given: true,
+                count: 3,
+                bulbs: [a, b, c, none],
+            }
+        }
+        SignalKind::Pedestrian => {
+            let a = standard_bulb(housing, height, 0, 2, BulbColor::Green);
+            let b = standard_bulb(housing, height, 1, 2, BulbColor::Red);
+            Bulbs {
+                given: true,
+                count: 2,
+                bulbs: [a, b, none, none],
+            }
+        }
+    }
+}
+
+// The lamps as given, or the standard ones.
+pub fn bulbs_of(q: SignalRequest, housing: Line) -> Bulbs
+    requires { ⌜ Roomy housing ⌝ }
+    ensures { λ r. ⌜ BulbsRead q (pointsOf housing) r ⌝ }
+{
+    let b = q.bulbs;
+    if b.given {
+        return b;
+    }
+    let h = q.height;
+    let kind = q.kind;
+    standard_bulbs(kind, housing, height_of(h))
+}
+
+fn bulb_numbers(b: SignalBulb) -> BulbNumbers
+    ensures { λ r. ⌜ BulbWords b r ⌝ }
+{
+    let c = b.color;
+    let a = b.arrow;
+    BulbNumbers {
+        color: bulb_color_number(c),
+        arrow: bulb_arrow_number(a),
+    }
+}
+
+// The row of a signal whose housing has this many points, in the form that is pushed. Room past the lamps' count has no meaning.
+pub fn signal_row(number: u64, q: SignalRequest, points: usize, bulbs: Bulbs) -> SignalRow
+    requires { ⌜ bulbs .count ≤ 4 ⌝ }
+    ensures { λ r. ⌜ RowMade number q points bulbs r ⌝ }
+{
+    let all = bulbs.bulbs;
+    let h = q.height;
+    let kind = q.kind;
+    let b0 = all[0];
+    let b1 = all[1];
+    let b2 = all[2];
+    let b3 = all[3];
+    let p = b0.position;
+    let s = b1.position;
+    let t = b2.position;
+    let u = b3.position;
+    let a = bulb_numbers(b0);
+    let b = bulb_numbers(b1);
+    let c = bulb_numbers(b2);
+    let d = bulb_numbers(b3);
+    let k = signal_kind_number(kind);
+    let n = points as u64;
+    SignalRow {
+        words: [
+            number,
+            k,
+            n,
+            1,
+            bulbs.count,
+            a.color,
+            a.arrow,
+            b.color,
+            b.arrow,
+            c.color,
+            c.arrow,
+            d.color,
+            d.arrow,
+        ],
+        more: [
+            height_of(h),
+            p.x,
+            p.y,
+            p.z,
+            s.x,
+            s.y,
+            s.z,
+            t.x,
+            t.y,
+            t.z,
+            u.x,
+            u.y,
+            u.z,
+        ],
+    }
+}
+
+// Whether every lamp is on the map. One past the fourth stands at the origin, which is.
+pub fn bulbs_on_map(b: Bulbs) -> bool
+    ensures { λ r. ⌜ r ≡ bulbsOnMap b ⌝ }
+{
+    let all = b.bulbs;
+    let n = b.count;
+    let mut i: usize = 0;
+    while i < 4 {
+        if n <= i as u64 {
+            return true;
+        }
+        let lamp = all[i];
+        let p = lamp.position;
+        if !geometry::point::on_map(p) {
+            return false;
+        }
+        i += 1;
+    }
+    true
+}
