@@ -11,7 +11,8 @@ use borrow.Author.Tests.{eqb-true, eqb-false, ltb-true, ltb-false}
 use Rattle.map.specs.Entity.{EntityRef, entity}
 use Rattle.changes.specs.ChangeSet.{Warning, warning, noChanges, tallyOf}
 use Rattle.changes.specs.declared.Tally.{Tally}
-use Rattle.changes.specs.Layout.{setWords, countIn, refAt, refsAt, aboutOf, warningAt, warningsAt, listIn, changeSetOf}
+use Rattle.changes.specs.ChangeFile.{maxEntries, maxWarnings}
+use Rattle.changes.specs.Layout.{fromOf, setWords, countIn, refAt, refsAt, aboutOf, warningAt, warningsAt, listIn, changeSetOf}
 use Rattle.changes.specs.Walk.{putRef, written}
 use Rattle.changes.proofs.WrittenLaws.{refs-same, warnings-same}
 use Rattle.sets.specs.Tables.{Roomy, putList}
@@ -60,21 +61,21 @@ written-more w p (suc n) a =
     ap (λ (v : List ℕ). written v (p + 2) (refsAt w (p + 2) n ++ a ∷ [])) (put-self w p) ∙ written-more w (p + 2) n a ∙ ap (λ (i : ℕ). putRef w i a) (sym q)
 
 pushed : (s : List ℕ) (l n k x : ℕ) → n ≡ getD s l 0
-    → set (set (set s (4 + l * 1024 + n * 2) k) (4 + l * 1024 + n * 2 + 1) x) l (n + 1) ≡ putList s l (listIn s l ++ entity k x ∷ [])
+    → set (set (set s (fromOf l + n * 2) k) (fromOf l + n * 2 + 1) x) l (n + 1) ≡ putList s l (listIn s l ++ entity k x ∷ [])
 unfolding putList listIn countIn putRef
 pushed s l n k x e = ap₂ {C = List ℕ} (λ (w : List ℕ) (m : ℕ). set w l m)
-    (sym (written-more s (4 + l * 1024) n (entity k x)) ∙ ap (λ (m : ℕ). written s (4 + l * 1024) (refsAt s (4 + l * 1024) m ++ entity k x ∷ [])) e)
+    (sym (written-more s (fromOf l) n (entity k x)) ∙ ap (λ (m : ℕ). written s (fromOf l) (refsAt s (fromOf l) m ++ entity k x ∷ [])) e)
     (let a = length-append (listIn s l) (entity k x ∷ []) in let b = length-in s l in omega arith)
 
-pub push-few : (s : List ℕ) (l n : ℕ) → n ≡ getD s l 0 → countIn s l < 512 → n < 512
+pub push-few : (s : List ℕ) (l n : ℕ) → n ≡ getD s l 0 → countIn s l < maxEntries → n < maxEntries
 unfolding countIn
 push-few s l n e h = omega arith
 
-module _ (s : List ℕ) (l : ℕ) (a : EntityRef) (r : Roomy s) (h : l < 3) (k : countIn s l < 512) where
+module _ (s : List ℕ) (l : ℕ) (a : EntityRef) (r : Roomy s) (h : l < 3) (k : countIn s l < maxEntries) where
   more : length (listIn s l ++ a ∷ []) ≡ countIn s l + 1
   more = let u = length-append (listIn s l) (a ∷ []) in let v = length-in s l in omega arith
 
-  within : length (listIn s l ++ a ∷ []) ≤ 512
+  within : length (listIn s l ++ a ∷ []) ≤ maxEntries
   within = let u = more in omega arith
 
   kept : (m : ℕ) → m < 4 → (m ≡ l → ⊥) → countIn (putList s l (listIn s l ++ a ∷ [])) m ≡ countIn s m
@@ -83,10 +84,10 @@ module _ (s : List ℕ) (l : ℕ) (a : EntityRef) (r : Roomy s) (h : l < 3) (k :
   counted : countIn (putList s l (listIn s l ++ a ∷ [])) l ≡ countIn s l + 1
   counted = count-put s l (listIn s l ++ a ∷ []) h within (r .size) ∙ more
 
-  few-still : (m : ℕ) → m < 3 → countIn (putList s l (listIn s l ++ a ∷ [])) m ≤ 512
+  few-still : (m : ℕ) → m < 3 → countIn (putList s l (listIn s l ++ a ∷ [])) m ≤ maxEntries
   few-still m q = go (eqb m l) refl
     where
-      go : (b : Bool) → eqb m l ≡ b → countIn (putList s l (listIn s l ++ a ∷ [])) m ≤ 512
+      go : (b : Bool) → eqb m l ≡ b → countIn (putList s l (listIn s l ++ a ∷ [])) m ≤ maxEntries
       go true e = let d = eqb-true m l e in rw d (let u = counted in omega arith)
       go false e = let u = kept m (omega arith) (eqb-false m l e) in let v = r .few m q in omega arith
 
@@ -100,18 +101,18 @@ module _ (s : List ℕ) (l : ℕ) (a : EntityRef) (r : Roomy s) (h : l < 3) (k :
   listed : listIn (putList s l (listIn s l ++ a ∷ [])) l ≡ listIn s l ++ a ∷ []
   listed = list-put s l (listIn s l ++ a ∷ []) h within (r .size)
 
-  quiet : warningsAt (putList s l (listIn s l ++ a ∷ [])) 3076 (countIn (putList s l (listIn s l ++ a ∷ [])) 3) ≡ warningsAt s 3076 (countIn s 3)
+  quiet : warningsAt (putList s l (listIn s l ++ a ∷ [])) (fromOf 3) (countIn (putList s l (listIn s l ++ a ∷ [])) 3) ≡ warningsAt s (fromOf 3) (countIn s 3)
   quiet = rw (kept 3 (omega arith) (λ e. omega arith)) (warnings-kept s l (listIn s l ++ a ∷ []) h within (r .size) (countIn s 3))
 
-set-pushed : (s : List ℕ) (l : ℕ) (a : EntityRef) → Roomy s → l < 3 → countIn s l < 512 → changeSetOf (putList s l (listIn s l ++ a ∷ [])) ≡ withEntry (changeSetOf s) l a
+set-pushed : (s : List ℕ) (l : ℕ) (a : EntityRef) → Roomy s → l < 3 → countIn s l < maxEntries → changeSetOf (putList s l (listIn s l ++ a ∷ [])) ≡ withEntry (changeSetOf s) l a
 unfolding changeSetOf
 set-pushed s zero a r h k = rw (listed s 0 a r h k, other s 0 a r h k 1 (omega arith) (λ e. omega arith), other s 0 a r h k 2 (omega arith) (λ e. omega arith), quiet s 0 a r h k)
 set-pushed s (suc zero) a r h k = rw (listed s 1 a r h k, other s 1 a r h k 0 (omega arith) (λ e. omega arith), other s 1 a r h k 2 (omega arith) (λ e. omega arith), quiet s 1 a r h k)
 set-pushed s (suc (suc zero)) a r h k = rw (listed s 2 a r h k, other s 2 a r h k 0 (omega arith) (λ e. omega arith), other s 2 a r h k 1 (omega arith) (λ e. omega arith), quiet s 2 a r h k)
 set-pushed s (suc (suc (suc l))) a r h k = absurd (omega arith)
 
-pub entry-added : (s : List ℕ) (l n k x : ℕ) → Roomy s → l < 3 → countIn s l < 512 → n ≡ getD s l 0
-    → EntryAdded s l (entity k x) (set (set (set s (4 + l * 1024 + n * 2) k) (4 + l * 1024 + n * 2 + 1) x) l (n + 1))
+pub entry-added : (s : List ℕ) (l n k x : ℕ) → Roomy s → l < 3 → countIn s l < maxEntries → n ≡ getD s l 0
+    → EntryAdded s l (entity k x) (set (set (set s (fromOf l + n * 2) k) (fromOf l + n * 2 + 1) x) l (n + 1))
 entry-added s l n k x r h f e = rw (pushed s l n k x e) (record {
   memory = refl;
   room = record { size = size-put s l _ h (within s l (entity k x) r h f) (r .size); few = few-still s l (entity k x) r h f };
@@ -121,12 +122,12 @@ entry-added s l n k x r h f e = rw (pushed s l n k x e) (record {
 })
 
 -- ---- a warning more
-pub warn-few : (s : List ℕ) (n : ℕ) → n ≡ getD s 3 0 → countIn s 3 < 160 → n < 160
+pub warn-few : (s : List ℕ) (n : ℕ) → n ≡ getD s 3 0 → countIn s 3 < maxWarnings → n < maxWarnings
 unfolding countIn
 warn-few s n e h = omega arith
 
 warned : (s : List ℕ) (n c k x : ℕ) → n ≡ getD s 3 0
-    → set (set (set (set s (3076 + n * 3) c) (3076 + n * 3 + 1) k) (3076 + n * 3 + 2) x) 3 (n + 1) ≡ putWarning s c k x
+    → set (set (set (set s (fromOf 3 + n * 3) c) (fromOf 3 + n * 3 + 1) k) (fromOf 3 + n * 3 + 2) x) 3 (n + 1) ≡ putWarning s c k x
 unfolding putWarning countIn
 warned s n c k x e = rw e
 
@@ -157,11 +158,11 @@ module _ (s : List ℕ) (p c k x v : ℕ) where
         getD-set-same s p c 0 (omega arith),
       )
 
-module _ (s : List ℕ) (c k x : ℕ) (r : Roomy s) (h : countIn s 3 < 160) where
+module _ (s : List ℕ) (c k x : ℕ) (r : Roomy s) (h : countIn s 3 < maxWarnings) where
   -- any word before the new warning but the count
-  word-kept : (i : ℕ) → (i ≡ 3 → ⊥) → i < 3076 + countIn s 3 * 3 → getD (putWarning s c k x) i 0 ≡ getD s i 0
+  word-kept : (i : ℕ) → (i ≡ 3 → ⊥) → i < fromOf 3 + countIn s 3 * 3 → getD (putWarning s c k x) i 0 ≡ getD s i 0
   unfolding putWarning
-  word-kept i f l = word-other s (3076 + countIn s 3 * 3) c k x (countIn s 3 + 1) i f (λ e. omega arith) (λ e. omega arith) (λ e. omega arith)
+  word-kept i f l = word-other s (fromOf 3 + countIn s 3 * 3) c k x (countIn s 3 + 1) i f (λ e. omega arith) (λ e. omega arith) (λ e. omega arith)
 
   pub warn-size : length (putWarning s c k x) ≡ setWords
   unfolding putWarning
@@ -169,7 +170,7 @@ module _ (s : List ℕ) (c k x : ℕ) (r : Roomy s) (h : countIn s 3 < 160) wher
 
   pub warn-count : countIn (putWarning s c k x) 3 ≡ countIn s 3 + 1
   unfolding putWarning countIn
-  warn-count = let u = r .size in getD-set-same (set (set (set s (3076 + getD s 3 0 * 3) c) (3076 + getD s 3 0 * 3 + 1) k) (3076 + getD s 3 0 * 3 + 2) x) 3 (getD s 3 0 + 1) 0 (simp length-set (omega arith))
+  warn-count = let u = r .size in getD-set-same (set (set (set s (fromOf 3 + getD s 3 0 * 3) c) (fromOf 3 + getD s 3 0 * 3 + 1) k) (fromOf 3 + getD s 3 0 * 3 + 2) x) 3 (getD s 3 0 + 1) 0 (simp length-set (omega arith))
 
   pub warn-others : (m : ℕ) → m < 3 → countIn (putWarning s c k x) m ≡ countIn s m
   unfolding countIn
@@ -177,15 +178,15 @@ module _ (s : List ℕ) (c k x : ℕ) (r : Roomy s) (h : countIn s 3 < 160) wher
 
   warn-lists : (m : ℕ) → m < 3 → listIn (putWarning s c k x) m ≡ listIn s m
   unfolding listIn
-  warn-lists m q = rw (warn-others m q) (refs-same s (putWarning s c k x) (4 + m * 1024) (countIn s m) (λ i a b. word-kept i (λ e. omega arith) (let u = r .few m q in omega arith)))
+  warn-lists m q = rw (warn-others m q) (refs-same s (putWarning s c k x) (fromOf m) (countIn s m) (λ i a b. word-kept i (λ e. omega arith) (let u = r .few m q in omega arith)))
 
-  warn-new : warningAt (putWarning s c k x) (3076 + countIn s 3 * 3) ≡ warning c (aboutOf k x)
+  warn-new : warningAt (putWarning s c k x) (fromOf 3 + countIn s 3 * 3) ≡ warning c (aboutOf k x)
   unfolding putWarning
-  warn-new = let u = r .size in warning-put s (3076 + countIn s 3 * 3) c k x (countIn s 3 + 1) (omega arith) (omega arith)
+  warn-new = let u = r .size in warning-put s (fromOf 3 + countIn s 3 * 3) c k x (countIn s 3 + 1) (omega arith) (omega arith)
 
-  warn-list : warningsAt (putWarning s c k x) 3076 (countIn (putWarning s c k x) 3) ≡ warningsAt s 3076 (countIn s 3) ++ warning c (aboutOf k x) ∷ []
-  warn-list = rw (warn-count, warnings-more (putWarning s c k x) 3076 (countIn s 3), warn-new)
-      (ap (λ (l : List Warning). l ++ warning c (aboutOf k x) ∷ []) (warnings-same s (putWarning s c k x) 3076 (countIn s 3) (λ i a b. word-kept i (λ e. omega arith) (omega arith))))
+  warn-list : warningsAt (putWarning s c k x) (fromOf 3) (countIn (putWarning s c k x) 3) ≡ warningsAt s (fromOf 3) (countIn s 3) ++ warning c (aboutOf k x) ∷ []
+  warn-list = rw (warn-count, warnings-more (putWarning s c k x) (fromOf 3) (countIn s 3), warn-new)
+      (ap (λ (l : List Warning). l ++ warning c (aboutOf k x) ∷ []) (warnings-same s (putWarning s c k x) (fromOf 3) (countIn s 3) (λ i a b. word-kept i (λ e. omega arith) (omega arith))))
 
   warn-set : changeSetOf (putWarning s c k x) ≡ withWarning (changeSetOf s) (warning c (aboutOf k x))
   unfolding changeSetOf
@@ -194,8 +195,8 @@ module _ (s : List ℕ) (c k x : ℕ) (r : Roomy s) (h : countIn s 3 < 160) wher
   warn-room : Roomy (putWarning s c k x)
   warn-room = record { size = warn-size; few = λ m q. let u = warn-others m q in let v = r .few m q in omega arith }
 
-pub warning-added : (s : List ℕ) (n c k x : ℕ) → Roomy s → countIn s 3 < 160 → n ≡ getD s 3 0
-    → WarningAdded s c k x (set (set (set (set s (3076 + n * 3) c) (3076 + n * 3 + 1) k) (3076 + n * 3 + 2) x) 3 (n + 1))
+pub warning-added : (s : List ℕ) (n c k x : ℕ) → Roomy s → countIn s 3 < maxWarnings → n ≡ getD s 3 0
+    → WarningAdded s c k x (set (set (set (set s (fromOf 3 + n * 3) c) (fromOf 3 + n * 3 + 1) k) (fromOf 3 + n * 3 + 2) x) 3 (n + 1))
 warning-added s n c k x r h e = rw (warned s n c k x e) (record {
   memory = refl;
   room = warn-room s c k x r h;

@@ -5,7 +5,7 @@ use mathlib.Core.List.{List, [], _∷_, _++_}
 use lib.ListN.{length, set}
 use Rattle.map.specs.Entity.{EntityRef}
 use Rattle.changes.specs.ChangeSet.{Warning, ChangeSet, noChanges, warning}
-use Rattle.changes.specs.Layout.{setWords, countIn, aboutOf, listIn, changeSetOf}
+use Rattle.changes.specs.Layout.{setWords, fromOf, countIn, aboutOf, listIn, changeSetOf}
 use Rattle.sets.specs.Tables.{Roomy, putList}
 
 -- an entry at the end of a list: 0 created, 1 modified, 2 deleted
@@ -34,7 +34,7 @@ pub record EntryAdded (s : List ℕ) (l : ℕ) (a : EntityRef) (s′ : List ℕ)
 -- the words of a warning at the end
 unfoldable pub putWarning : List ℕ → ℕ → ℕ → ℕ → List ℕ
 putWarning s c k x =
-    let at = 3076 + countIn s 3 * 3 in
+    let at = fromOf 3 + countIn s 3 * 3 in
     set (set (set (set s at c) (at + 1) k) (at + 2) x) 3 (countIn s 3 + 1)
 
 pub record WarningAdded (s : List ℕ) (c k x : ℕ) (s′ : List ℕ) : Type 0 where

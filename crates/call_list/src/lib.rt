@@ -194,10 +194,10 @@ pub fn check_run(
     if coords.len() != layout::COORDS {
         return Ran::Refused(Refusal::BadMap);
     }
-    if fold.len() != 3556 {
+    if fold.len() != SET {
         return Ran::Refused(Refusal::BadSet);
     }
-    if set.len() != 3556 {
+    if set.len() != SET {
         return Ran::Refused(Refusal::BadSet);
     }
     let n = calls.len() / 26;

@@ -12,12 +12,17 @@ use Rattle.changes.specs.ChangeSet.{Warning, warning, ChangeSet}
 use Rattle.changes.specs.ChangeFile.{isSet, listsOk}
 use Rattle.changes.specs.Running.{foldCall}
 
+-- a table, in words
 abbrev pub setWords : ℕ
 setWords = 3556
 
+-- the room of a list of entries, in words
+abbrev pub listWords : ℕ
+listWords = 1024
+
 -- where list l begins: 0 created, 1 modified, 2 deleted, 3 warnings
 abbrev pub fromOf : ℕ → ℕ
-fromOf l = 4 + l * 1024
+fromOf l = 4 + l * listWords
 
 -- how many entries it has
 unfoldable pub countIn : List ℕ → ℕ → ℕ

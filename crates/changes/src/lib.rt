@@ -1,4 +1,5 @@
 // Change sets, folds and the tally.
+pub mod layout;
 pub mod lists;
 
 // How many entries a running fold has as created, modified and deleted.

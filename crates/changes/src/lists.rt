@@ -9,8 +9,9 @@ ghost use Rattle.map.specs.Entity.{entity, compareRefs};
 ghost use Rattle.changes.specs.Order.{orderOf, firstsOf};
 ghost use Rattle.changes.specs.ChangeSet.{sortRefs, without};
 ghost use Rattle.changes.specs.ChangeFile.{isBefore, entry, entries, apart};
-ghost use Rattle.changes.specs.Layout.{refAt, refsAt};
+ghost use Rattle.changes.specs.Layout.{listWords, refAt, refsAt};
 ghost use Rattle.changes.specs.Walk.{refsTo, Walks, putRef, written, Put};
+use crate::layout;
 
 pub enum Order {
     Before,
@@ -198,10 +199,10 @@ pub fn follows(k: u64, x: u64, l: u64, y: u64) -> bool
 
 // Whether the n entries from p on are a list of a change set.
 pub fn entries_ok(t: &[u64], p: usize, n: usize) -> bool
-    requires { ⌜ p + 1024 ≤ length (now t) ⌝ }
+    requires { ⌜ p + listWords ≤ length (now t) ⌝ }
     ensures { λ r. ⌜ r ≡ entries .fits (refsAt (now (t .entry)) p n) ⌝ }
 {
-    if 512 < n {
+    if layout::ENTRIES < n {
         return false;
     }
     let e = p + n * 2;

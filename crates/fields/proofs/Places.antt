@@ -58,6 +58,18 @@ module _ {A B : Type 0} (f : Format A) (g : Format B) (s : Bytes) where
   place-then (P.At i) (P.At j) (P.At k) a b x y = rw (← x, ← y)
   place-then (P.At i) (P.At j) P.Fault a b x y = rw (← x, ← y)
 
+module _ {A : Type 0} {B : A → Type 0} (f : Format A) (g : (a : A) → Format (B a)) (s : Bytes) where
+  -- the second format goes by the first value
+  pub place-tagged : (p q r : Place) (a : A) (b : B a) → gotAt s q a ≡ readAt f s p → gotAt s r b ≡ readAt (g a) s q → gotAt s r (a, b) ≡ readAt (tagged f g) s p
+  unfolding tagged
+  place-tagged P.Fault (P.At j) r a b x y = absurd (no-got (sym x))
+  place-tagged P.Fault P.Fault (P.At k) a b x y = absurd (no-got (sym y))
+  place-tagged P.Fault P.Fault P.Fault a b x y = refl
+  place-tagged (P.At i) P.Fault (P.At k) a b x y = absurd (no-got (sym y))
+  place-tagged (P.At i) P.Fault P.Fault a b x y = rw (← x)
+  place-tagged (P.At i) (P.At j) (P.At k) a b x y = rw (← x, ← y)
+  place-tagged (P.At i) (P.At j) P.Fault a b x y = rw (← x, ← y)
+
 module _ {A B : Type 0} (f : Format A) (into : A → B) (out : B → A) (oi : (a : A) → f .fits a ≡ true → out (into a) ≡ a) (io : (b : B) → f .fits (out b) ≡ true → into (out b) ≡ b) (s : Bytes) where
   pub place-via : (p q : Place) (a : A) → gotAt s q a ≡ readAt f s p → gotAt s q (into a) ≡ readAt (via f into out oi io) s p
   unfolding via

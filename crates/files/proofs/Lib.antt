@@ -2,3 +2,5 @@ pub mod RoundTrip
 mod Cases
 pub mod ReadLaws
 pub mod WriteLaws
+pub mod SetReadLaws
+pub mod OpenLaws

@@ -1,3 +1,4 @@
 pub mod Files
 pub mod ReadInto
 pub mod WriteOut
+pub mod OpenInto

@@ -1,14 +1,28 @@
 // Map files and change set files.
+use changes::Tally;
 use fields::Place;
 use refusal::Refusal;
 use store::layout;
 ghost use mathlib.Core.Path.{_≡_};
 ghost use Rattle.mapfile.specs.MapBytes.{isMapFile};
-ghost use Rattle.files.specs.ReadInto.{MapReadInto};
+ghost use Rattle.files.specs.ReadInto.{MapReadInto, ChangesReadInto};
+ghost use Rattle.files.specs.OpenInto.{MapOpened};
 ghost use Rattle.files.specs.WriteOut.{ChangesWritten};
 
 // The tables hold the map, or nothing was altered.
 pub enum MapRead {
+    Done,
+    Refused(Refusal),
+}
+
+// The tables hold the map and an empty fold, whose tally this is; or nothing was altered.
+pub enum Opened {
+    Done(Tally),
+    Refused(Refusal),
+}
+
+// The table holds the set, or nothing was altered.
+pub enum ChangesRead {
     Done,
     Refused(Refusal),
 }
@@ -44,6 +58,60 @@ pub fn read_map(s: &[u8], words: &mut [u64], coords: &mut [f64]) -> MapRead
         return MapRead::Done;
     }
     MapRead::Refused(Refusal::BadMap)
+}
+
+// The opening of a run: the map, an empty running fold, three zeros.
+pub fn open_map(s: &[u8], words: &mut [u64], coords: &mut [f64], fold: &mut [u64]) -> Opened
+    ensures { λ r. ⌜ MapOpened (now (s .entry)) (now (words .entry)) (now (coords .entry)) (now (fold .entry)) r (now (words .exit)) (now (coords .exit)) (now (fold .exit)) ⌝ }
+{
+    if fold.len() != 3556 {
+        // a file that is no map is refused first
+        if words.len() != layout::WORDS {
+            return Opened::Refused(Refusal::BadMap);
+        }
+        if coords.len() != layout::COORDS {
+            return Opened::Refused(Refusal::BadMap);
+        }
+        let good = is_map_file(s);
+        if good {
+            return Opened::Refused(Refusal::BadSet);
+        }
+        return Opened::Refused(Refusal::BadMap);
+    }
+    let read = read_map(s, words, coords);
+    match read {
+        MapRead::Refused(why) => Opened::Refused(why),
+        MapRead::Done => {
+            building::clear(fold);
+            Opened::Done(Tally {
+                created: 0,
+                modified: 0,
+                deleted: 0,
+            })
+        }
+    }
+}
+
+// A set file read into a table: into spare words first, so that a refusal leaves the table as it was.
+pub fn read_changes(s: &[u8], set: &mut [u64]) -> ChangesRead
+    ensures { λ r. ⌜ ChangesReadInto (now (s .entry)) (now (set .entry)) r (now (set .exit)) ⌝ }
+{
+    if set.len() != 3556 {
+        return ChangesRead::Refused(Refusal::BadSet);
+    }
+    let mut spare: [u64; 3556] = [0; 3556];
+    let end = setfile::load_set(s, &mut spare);
+    let Place::At(n) = end else {
+        return ChangesRead::Refused(Refusal::BadSet);
+    };
+    if n < s.len() {
+        return ChangesRead::Refused(Refusal::BadSet);
+    }
+    if !checks::is_set(&spare) {
+        return ChangesRead::Refused(Refusal::BadSet);
+    }
+    rows::put(set, 0, &spare);
+    ChangesRead::Done
 }
 
 // The set file of a table, at the beginning of the buffer. Its size is known before the first store.

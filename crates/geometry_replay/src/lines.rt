@@ -3,10 +3,6 @@ use crate::points::expect_maybe2;
 use crate::points::expect_truth;
 use crate::points::expect2;
 use crate::points::expect3;
-use crate::text::double_at;
-use crate::text::expect;
-use crate::text::expect_number;
-use crate::text::number_at;
 use centerline::Line;
 use centerline::Stations;
 use geometry::Location;
@@ -15,44 +11,11 @@ use geometry::MaybeNearest;
 use geometry::MaybePoint3;
 use geometry::NearestPoint;
 use geometry::Point2;
-ghost use mathlib.Core.Path.{_≡_};
-ghost use lib.ListN.{length};
-
-// The points of a request; a count of 65 stands for more than 64.
-pub struct Points {
-    pub coords: [f64; 192],
-    pub count: u64,
-    pub next: usize,
-}
-
-fn points_at(text: &[u8], at: usize) -> Points
-    ensures { λ r. ⌜ 192 ≡ length (r .coords) ⌝ }
-{
-    let w = number_at(text, at);
-    let count = w.value;
-    let mut coords = [0.0; 192];
-    let mut next = w.next;
-    if count > 64 {
-        return Points {
-            coords,
-            count: 65,
-            next,
-        };
-    }
-    let n = count as usize * 3;
-    let mut i = 0;
-    while i < n {
-        let d = double_at(text, next);
-        coords[i] = d.value;
-        next = d.next;
-        i += 1;
-    }
-    Points {
-        coords,
-        count,
-        next,
-    }
-}
+use sample_text::double_at;
+use sample_text::expect;
+use sample_text::expect_number;
+use sample_text::number_at;
+use sample_text::points_at;
 
 // ---- stored answers
 

@@ -3,7 +3,6 @@
 // definition here (`add2`, `lerp2`, `dot3`, `is_finite2`), and more than 64 points.
 mod lines;
 mod points;
-mod text;
 
 pub struct Tally {
     pub met: u64,
@@ -15,7 +14,7 @@ pub struct Tally {
 
 // Where the answer's last word ends, 0 where it is another answer, 1 where it is not asked.
 fn case(words: &[u8], from: usize, at: usize) -> usize {
-    let w = text::name_at(words, from);
+    let w = sample_text::name_at(words, from);
     let code = w.value;
     let v = points::doubles_at(words, w.next);
     let p = points::plane(words, code, v, at);
@@ -67,8 +66,8 @@ fn counted(t: Tally, end: usize) -> Tally {
 
 // A request that starts at `from`; its answer stands in the next line. Each has one word in front.
 fn answered(words: &[u8], from: usize, next: usize) -> usize {
-    let g = text::name_at(words, from);
-    let e = text::name_at(words, next);
+    let g = sample_text::name_at(words, from);
+    let e = sample_text::name_at(words, next);
     case(words, g.next, e.next)
 }
 
@@ -86,12 +85,12 @@ fn replay(words: &[u8], before: Tally) -> Tally {
     let mut t = before;
     let mut at = 0;
     while at < words.len() {
-        let next = text::line_end(words, at);
+        let next = sample_text::line_end(words, at);
         if next == words.len() {
             return used(t, at);
         }
         if words[at] == b'g' {
-            let after = text::line_end(words, next);
+            let after = sample_text::line_end(words, next);
             if words[after - 1] != 10 {
                 return used(t, at);
             }

@@ -1,12 +1,12 @@
 // Cases on numbers and points.
-use crate::text::double_at;
-use crate::text::expect;
-use crate::text::expect_number;
 use geometry::MaybePoint2;
 use geometry::Point2;
 use geometry::Point3;
 use geometry::double;
 use geometry::point;
+use sample_text::double_at;
+use sample_text::expect;
+use sample_text::expect_number;
 
 // Up to seven doubles of a request. Where it has fewer, the rest is not used.
 pub struct Doubles {

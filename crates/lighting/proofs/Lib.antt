@@ -1,2 +1,4 @@
 pub mod RuleLaws
 pub mod GroupLaws
+pub mod HousingLaws
+pub mod PlanLaws

@@ -1,2 +1,4 @@
 pub mod RuleLines
 pub mod Group
+pub mod Housing
+pub mod Plan

@@ -6,6 +6,8 @@ use placing::MaybeNumber;
 
 pub mod rules; // rules.rt: the lines that rules name
 pub mod group; // group.rt: the light that is joined, and the choice of a line
+pub mod housings; // housings.rt: where the signal goes
+pub mod plan; // plan.rt: all that the call tests
 
 // Where a light's line comes from.
 pub enum LinePlan {

@@ -27,7 +27,7 @@ pub fn copied(cs: &[f64]) -> Line
     Line { coords, count }
 }
 
-fn absent() -> MaybeLine
+pub fn absent() -> MaybeLine
     ensures { λ r. ⌜ LineRead none r ⌝ }
 {
     MaybeLine {

@@ -8,6 +8,7 @@ use geometry::double::abs;
 use geometry::double::clamp;
 use geometry::double::is_finite;
 use place::CrossSection;
+use place::MaybeLine;
 use place::MaybeSection;
 use place::Placement;
 use place::lines::copied;
@@ -26,7 +27,7 @@ ghost use Rattle.centerline.specs.Line.{pointsOf};
 ghost use Rattle.map.specs.Tables.{mapOf};
 ghost use Rattle.place.specs.Place.{laneCenterline, placeAs, placeStopLine};
 ghost use Rattle.place.specs.Readable.{Readable};
-ghost use Rattle.place.specs.Values.{Roomy};
+ghost use Rattle.place.specs.Values.{Roomy, LineRead};
 ghost use Rattle.placing.specs.Answers.{RefusedWith, placedAnswer, placeOn, placeGiven};
 
 pub fn refused_line(r: Refusal) -> PlacedLine
@@ -129,6 +130,27 @@ pub fn place_as(
     }
 }
 
+// The line, or a refusal, with the first lane's centreline looked up before.
+pub fn place_with(
+    words: &[u64],
+    coords: &[f64],
+    center: MaybeLine,
+    lanes: &[u64],
+    how: Placement,
+    given: &[f64],
+) -> PlacedLine
+    requires { ⌜ Readable (now words) (now coords) × (0 < length (now lanes)) × LineRead (laneCenterline (mapOf (now words) (now coords)) (getD (now lanes) 0 0)) center ⌝ }
+    ensures { λ r. ⌜ (placedAnswer (getD (now (lanes .entry)) 0 0) r ≡ placeStopLine (mapOf (now (words .entry)) (now (coords .entry))) (now (lanes .entry)) how (now (given .entry))) × Roomy (r .line) ⌝ }
+{
+    if !center.there {
+        return refused_line(Refusal::NoPlace(1));
+    }
+    let line = center.line;
+    let cs = line.coords;
+    let e = line.count * 3;
+    place_as(words, coords, &cs[..e], lanes, how, given)
+}
+
 // The line, or a refusal; the list of lanes is checked before.
 pub fn place_stop_line(
     words: &[u64],
@@ -140,12 +162,6 @@ pub fn place_stop_line(
     requires { ⌜ Readable (now words) (now coords) × (0 < length (now lanes)) ⌝ }
     ensures { λ r. ⌜ (placedAnswer (getD (now (lanes .entry)) 0 0) r ≡ placeStopLine (mapOf (now (words .entry)) (now (coords .entry))) (now (lanes .entry)) how (now (given .entry))) × Roomy (r .line) ⌝ }
 {
-    let m = lane_centerline(words, coords, lanes[0]);
-    if !m.there {
-        return refused_line(Refusal::NoPlace(1));
-    }
-    let line = m.line;
-    let center = line.coords;
-    let e = line.count * 3;
-    place_as(words, coords, &center[..e], lanes, how, given)
+    let center = lane_centerline(words, coords, lanes[0]);
+    place_with(words, coords, center, lanes, how, given)
 }

@@ -19,7 +19,7 @@ use Rattle.map.specs.Tables.{flagAt, optionAt, listAt, lineAt, bodyOf, ruleIn}
 use Rattle.fields.specs.Fields.{readAt, gotAt, Changed, largest, Word, Numbers, OptionLine, OptionNumber}
 use Rattle.fields.specs.declared.Place.{Place}
 use Rattle.fields.specs.declared.Place.the-variants as P
-use Rattle.fields.proofs.Places.{changed-both, place-then, place-via, range-any, range-from}
+use Rattle.fields.proofs.Places.{changed-both, place-then, place-via, range-any, range-from, place-tagged}
 use Rattle.records.specs.Records.{RowRead, BodyRead, PartRead, SignRead, lightIn, signIn, rightOfWayIn, crossingIn}
 
 -- ---- a list that stands apart from a change
@@ -80,16 +80,6 @@ pub ruleset reading-parts = (light-got, crossing-got, right-of-way-got, sign-got
 -- ---- the body
 
 module _ {A : Type 0} {B : A → Type 0} (f : Format A) (g : (a : A) → Format (B a)) (s : Bytes) where
-  place-tagged : (p q r : Place) (a : A) (b : B a) → gotAt s q a ≡ readAt f s p → gotAt s r b ≡ readAt (g a) s q → gotAt s r (a, b) ≡ readAt (tagged f g) s p
-  unfolding tagged
-  place-tagged P.Fault (P.At j) r a b x y = absurd (no-got (sym x))
-  place-tagged P.Fault P.Fault (P.At k) a b x y = absurd (no-got (sym y))
-  place-tagged P.Fault P.Fault P.Fault a b x y = refl
-  place-tagged (P.At i) P.Fault (P.At k) a b x y = absurd (no-got (sym y))
-  place-tagged (P.At i) P.Fault P.Fault a b x y = rw (← x)
-  place-tagged (P.At i) (P.At j) (P.At k) a b x y = rw (← x, ← y)
-  place-tagged (P.At i) (P.At j) P.Fault a b x y = rw (← x, ← y)
-
   tagged-fault : (p q : Place) (a : A) → gotAt s q a ≡ readAt f s p → fault ≡ readAt (g a) s q → fault ≡ readAt (tagged f g) s p
   unfolding tagged
   tagged-fault P.Fault q a x y = refl

@@ -20,7 +20,7 @@ use Rattle.changes.specs.declared.Tally.{Tally}
 use Rattle.changes.specs.ChangeSet.{Warning, ChangeSet, tallyOf}
 use Rattle.changes.specs.ChangeFile.{listsOk}
 use Rattle.changes.specs.Running.{State, sameTally, allBelow, foldOk}
-use Rattle.changes.specs.Layout.{setWords, countIn, refAt, refsAt, warningsAt, listIn, changeSetOf, listsOkIn}
+use Rattle.changes.specs.Layout.{fromOf, setWords, countIn, refAt, refsAt, warningsAt, listIn, changeSetOf, listsOkIn}
 use Rattle.sets.specs.Tables.{Roomy}
 use Rattle.sets.proofs.SettleLaws.{length-in}
 use Rattle.sets.proofs.TableLaws.{ok-size-of, fits-ok}
@@ -77,11 +77,11 @@ passing-end ws there t p n at left i h = let q : left ≡ 0 = omega arith in rec
 
 pub ruleset passing = (passing-start, passing-stop, passing-more, passing-end)
 
-pub list-room : (f : List ℕ) (l n : ℕ) → Roomy f → l < 3 → n ≡ getD f l 0 → 4 + l * 1024 + n * 2 ≤ length f
+pub list-room : (f : List ℕ) (l n : ℕ) → Roomy f → l < 3 → n ≡ getD f l 0 → fromOf l + n * 2 ≤ length f
 unfolding countIn
 list-room f l n r h e = let u = r .few l h in let v = r .size in omega arith
 
-pub list-told : (ws : List ℕ) (there : Bool) (f : List ℕ) (l n : ℕ) (r : Bool) → n ≡ getD f l 0 → ListTested ws there (refsAt f (4 + l * 1024) n) r → ListTested ws there (listIn f l) r
+pub list-told : (ws : List ℕ) (there : Bool) (f : List ℕ) (l n : ℕ) (r : Bool) → n ≡ getD f l 0 → ListTested ws there (refsAt f (fromOf l) n) r → ListTested ws there (listIn f l) r
 unfolding listIn countIn
 list-told ws there f l n r e h = record { answer = λ cs. rw e at (h .answer cs) }
 
@@ -145,7 +145,7 @@ loud : (f : List ℕ) → (getD f 3 0 ≡ 0 → ⊥) → noEntries (changeSetOf 
 unfolding changeSetOf countIn warningsAt noEntries
 loud f n = go (getD f 3 0) n
   where
-    go : (k : ℕ) → (k ≡ 0 → ⊥) → noEntries (warningsAt f 3076 k) ≡ false
+    go : (k : ℕ) → (k ≡ 0 → ⊥) → noEntries (warningsAt f (fromOf 3) k) ≡ false
     go zero n = absurd (n refl)
     go (suc k) n = refl
 

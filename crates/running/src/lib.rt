@@ -10,6 +10,7 @@ ghost use Rattle.changes.specs.Layout.{setWords, refsAt, listIn, changeSetOf};
 ghost use Rattle.sets.specs.Tables.{Roomy};
 ghost use Rattle.running.specs.Tested.{EntryTested, ListTested, FoldTested};
 use changes::Tally;
+use changes::layout;
 
 // Whether record (k, x) has a number below the next, and is on the map, or is not, as `there` says.
 pub fn entry_ok(words: &[u64], there: bool, k: u64, x: u64) -> bool
@@ -47,7 +48,13 @@ pub fn list_ok(words: &[u64], there: bool, f: &[u64], l: usize) -> bool
     requires { ⌜ SizedWords (now words) × Roomy (now f) × (l < 3) ⌝ }
     ensures { λ r. ⌜ ListTested (now (words .entry)) there (listIn (now (f .entry)) l) r ⌝ }
 {
-    entries_ok(words, there, f, 4 + l * 1024, rows::index(f[l]))
+    entries_ok(
+        words,
+        there,
+        f,
+        layout::LISTS + l * layout::LIST,
+        rows::index(f[l]),
+    )
 }
 
 // Whether the tally is the fold's three counts.

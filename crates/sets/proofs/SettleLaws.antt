@@ -7,9 +7,9 @@ use native.Mathlib.Omega.{arith}
 use lib.ListN.{length, getD, set, length-append}
 use Rattle.rows.specs.Lists.{byOrder}
 use Rattle.map.specs.Entity.{EntityRef, compareRefs}
-use Rattle.changes.specs.ChangeFile.{risingRefs}
+use Rattle.changes.specs.ChangeFile.{maxEntries, risingRefs}
 use Rattle.changes.specs.ChangeSet.{insertRef, sortRefs, without}
-use Rattle.changes.specs.Layout.{fromOf, countIn, listIn, refsAt}
+use Rattle.changes.specs.Layout.{setWords, fromOf, countIn, listIn, refsAt}
 use Rattle.changes.specs.Walk.{refsTo, Walks, written, Put}
 use Rattle.changes.proofs.Refs.{sort-rising}
 use Rattle.changes.proofs.EntryLaws.{refs-at, length-refs}
@@ -18,26 +18,26 @@ use Rattle.sets.specs.Tables.{Roomy, putList, Fits, createdIn, modifiedI
 use Rattle.sets.proofs.ListLaws.{length-without, without-rises, without-again, length-to, put-size, put-list, put-before, put-past}
 
 -- ---- a list written into a table
-pub list-put : (f t : List ℕ) (l e n r : ℕ) (f′ : List ℕ) → Put f (4 + l * 1024) (refsTo t e n) r f′ → set f′ l n ≡ putList f l (refsTo t e n)
+pub list-put : (f t : List ℕ) (l e n r : ℕ) (f′ : List ℕ) → Put f (fromOf l) (refsTo t e n) r f′ → set f′ l n ≡ putList f l (refsTo t e n)
 unfolding putList
 list-put f t l e n r f′ h = ap₂ {C = List ℕ} (λ (w : List ℕ) (k : ℕ). set w l k) (h .memory) (sym (length-to t e n))
 
-pub list-room : (f t : List ℕ) (l e n r : ℕ) (f′ : List ℕ) → Put f (4 + l * 1024) (refsTo t e n) r f′ → length f ≡ 3556 → l < 3 → l < length f′
+pub list-room : (f t : List ℕ) (l e n r : ℕ) (f′ : List ℕ) → Put f (fromOf l) (refsTo t e n) r f′ → length f ≡ setWords → l < 3 → l < length f′
 list-room f t l e n r f′ h s k = let u = put-size f _ _ r f′ h in omega arith
 
 pub ruleset putting = (list-put, list-room)
 
 -- ---- a list of a table, by the count that stands in it
 module _ (f : List ℕ) (l a : ℕ) (h : Fits f) (k : l < 3) (e : a ≡ getD f l 0) where
-  pub few : a ≤ 512
+  pub few : a ≤ maxEntries
   unfolding countIn
   few = let u = h .room .few l k in omega arith
 
-  pub walked : refsTo f (4 + l * 1024 + a * 2) a ≡ listIn f l
+  pub walked : refsTo f (fromOf l + a * 2) a ≡ listIn f l
   unfolding listIn countIn
-  walked = refs-at f (4 + l * 1024) a ∙ ap (λ (n : ℕ). refsAt f (4 + l * 1024) n) e
+  walked = refs-at f (fromOf l) a ∙ ap (λ (n : ℕ). refsAt f (fromOf l) n) e
 
-  pub walks : Walks f (4 + l * 1024 + a * 2) a
+  pub walks : Walks f (fromOf l + a * 2) a
   walks =
       let u = few in
       let s = h .room .size in
@@ -61,7 +61,7 @@ length-sort (x ∷ xs) = let u = length-insert x (sortRefs xs) in let v = length
 
 pub length-in : (f : List ℕ) (l : ℕ) → length (listIn f l) ≡ countIn f l
 unfolding listIn
-length-in f l = length-refs f (4 + l * 1024) (countIn f l)
+length-in f l = length-refs f (fromOf l) (countIn f l)
 
 -- no more than in both
 joined-few : (f c : List ℕ) (l r room : ℕ) → r ≡ length (sortRefs (listIn f l ++ listIn c l)) → countIn f l + countIn c l ≤ room → r ≤ room
@@ -73,11 +73,11 @@ joined-few f c l r room e h =
     omega arith
 
 module _ (u : List ℕ) (p : ℕ) (f c : List ℕ) (l a b : ℕ) (h : Fits f) (g : Fits c) (k : l < 3) (e : a ≡ getD f l 0) (d : b ≡ getD c l 0) where
-  pub list-asks : p + (countIn f l + countIn c l) * 2 ≤ length u → Walks f (4 + l * 1024 + a * 2) a × Walks c (4 + l * 1024 + b * 2) b × (p + (a + b) * 2 ≤ length u)
+  pub list-asks : p + (countIn f l + countIn c l) * 2 ≤ length u → Walks f (fromOf l + a * 2) a × Walks c (fromOf l + b * 2) b × (p + (a + b) * 2 ≤ length u)
   unfolding countIn
   list-asks o = (walks f l a h k e, walks c l b g k d, rw (e, d) o)
 
-  pub list-united : (r : ℕ) (u′ : List ℕ) → Put u p (sortRefs (refsTo f (4 + l * 1024 + a * 2) a ++ refsTo c (4 + l * 1024 + b * 2) b)) r u′
+  pub list-united : (r : ℕ) (u′ : List ℕ) → Put u p (sortRefs (refsTo f (fromOf l + a * 2) a ++ refsTo c (fromOf l + b * 2) b)) r u′
       → Put u p (sortRefs (listIn f l ++ listIn c l)) r u′
   list-united r u′ q = rw (walked f l a h k e, walked c l b g k d) at q
 

@@ -12,10 +12,10 @@ use Rattle.rows.proofs.Bools.{parts, and-i, and-l, and-r, and-no, clash}
 use Rattle.refusal.specs.Answer.{Answer, refused, done, refusedAs, refuseWhen, _>>_}
 use Rattle.refusal.specs.declared.Refusal.the-variants.{Full, BadSet}
 use Rattle.map.specs.Entity.{EntityRef}
-use Rattle.changes.specs.ChangeFile.{risingRefs, entries, apart, listsApart, listsOk}
+use Rattle.changes.specs.ChangeFile.{maxEntries, risingRefs, entries, apart, listsApart, listsOk}
 use Rattle.changes.specs.ChangeSet.{Warning, ChangeSet, sortRefs, without, normalize, foldStep}
 use Rattle.changes.specs.Running.{foldFits, foldCall}
-use Rattle.changes.specs.Layout.{setWords, countIn, refsAt, warningsAt, listIn, changeSetOf, listsOkIn, foldTables}
+use Rattle.changes.specs.Layout.{listWords, fromOf, setWords, countIn, refsAt, warningsAt, listIn, changeSetOf, listsOkIn, foldTables}
 use Rattle.changes.specs.Walk.{refsTo, Walks, written}
 use Rattle.changes.proofs.Refs.{sort-rising}
 use Rattle.changes.proofs.EntryLaws.{length-refs, entries-few, entries-rise}
@@ -29,23 +29,23 @@ use Rattle.sets.proofs.ListLaws.{without-sorted, length-to}
 use Rattle.sets.proofs.SettleLaws.{length-in, few, walks, walked}
 
 -- ---- one list written over
-module _ (w : List ℕ) (l : ℕ) (xs : List EntityRef) (k : l < 3) (n : length xs ≤ 512) (s : length w ≡ setWords) where
+module _ (w : List ℕ) (l : ℕ) (xs : List EntityRef) (k : l < 3) (n : length xs ≤ maxEntries) (s : length w ≡ setWords) where
   pub size-put : length (putList w l xs) ≡ setWords
   unfolding putList
-  size-put = simp length-set (length-written w (4 + l * 1024) xs ∙ s)
+  size-put = simp length-set (length-written w (fromOf l) xs ∙ s)
 
   -- any other word
-  word-put : (i : ℕ) → (i ≡ l → ⊥) → i < 4 + l * 1024 → getD (putList w l xs) i 0 ≡ getD w i 0
+  word-put : (i : ℕ) → (i ≡ l → ⊥) → i < fromOf l → getD (putList w l xs) i 0 ≡ getD w i 0
   unfolding putList
-  word-put i f h = getD-set-other (written w (4 + l * 1024) xs) l i (length xs) 0 f ∙ word-before w (4 + l * 1024) xs i h
+  word-put i f h = getD-set-other (written w (fromOf l) xs) l i (length xs) 0 f ∙ word-before w (fromOf l) xs i h
 
-  word-put-past : (i : ℕ) → 4 + l * 1024 + 1024 ≤ i → getD (putList w l xs) i 0 ≡ getD w i 0
+  word-put-past : (i : ℕ) → fromOf l + listWords ≤ i → getD (putList w l xs) i 0 ≡ getD w i 0
   unfolding putList
-  word-put-past i h = getD-set-other (written w (4 + l * 1024) xs) l i (length xs) 0 (λ e. omega arith) ∙ word-past w (4 + l * 1024) xs i (omega arith)
+  word-put-past i h = getD-set-other (written w (fromOf l) xs) l i (length xs) 0 (λ e. omega arith) ∙ word-past w (fromOf l) xs i (omega arith)
 
   pub count-put : countIn (putList w l xs) l ≡ length xs
   unfolding countIn putList
-  count-put = getD-set-same (written w (4 + l * 1024) xs) l (length xs) 0 (let u = length-written w (4 + l * 1024) xs in omega arith)
+  count-put = getD-set-same (written w (fromOf l) xs) l (length xs) 0 (let u = length-written w (fromOf l) xs in omega arith)
 
   pub count-kept : (m : ℕ) → m < 4 → (m ≡ l → ⊥) → countIn (putList w l xs) m ≡ countIn w m
   unfolding countIn
@@ -53,25 +53,25 @@ module _ (w : List ℕ) (l : ℕ) (xs : List EntityRef) (k : l < 3) (n : length 
 
   pub list-put : listIn (putList w l xs) l ≡ xs
   unfolding listIn putList
-  list-put = ap (λ (m : ℕ). refsAt (putList w l xs) (4 + l * 1024) m) count-put
-      ∙ refs-same (written w (4 + l * 1024) xs) (putList w l xs) (4 + l * 1024) (length xs) (λ i a b. getD-set-other (written w (4 + l * 1024) xs) l i (length xs) 0 (λ e. omega arith))
-      ∙ refs-written w (4 + l * 1024) xs (omega arith)
+  list-put = ap (λ (m : ℕ). refsAt (putList w l xs) (fromOf l) m) count-put
+      ∙ refs-same (written w (fromOf l) xs) (putList w l xs) (fromOf l) (length xs) (λ i a b. getD-set-other (written w (fromOf l) xs) l i (length xs) 0 (λ e. omega arith))
+      ∙ refs-written w (fromOf l) xs (omega arith)
 
-  pub list-before : (m : ℕ) → m < l → countIn w m ≤ 512 → listIn (putList w l xs) m ≡ listIn w m
+  pub list-before : (m : ℕ) → m < l → countIn w m ≤ maxEntries → listIn (putList w l xs) m ≡ listIn w m
   unfolding listIn
-  list-before m h c = ap (λ (i : ℕ). refsAt (putList w l xs) (4 + m * 1024) i) (count-kept m (omega arith) (λ e. omega arith))
-      ∙ refs-same w (putList w l xs) (4 + m * 1024) (countIn w m) (λ i a b. word-put i (λ e. omega arith) (omega arith))
+  list-before m h c = ap (λ (i : ℕ). refsAt (putList w l xs) (fromOf m) i) (count-kept m (omega arith) (λ e. omega arith))
+      ∙ refs-same w (putList w l xs) (fromOf m) (countIn w m) (λ i a b. word-put i (λ e. omega arith) (omega arith))
 
-  pub list-past : (m : ℕ) → l < m → m < 3 → countIn w m ≤ 512 → listIn (putList w l xs) m ≡ listIn w m
+  pub list-past : (m : ℕ) → l < m → m < 3 → countIn w m ≤ maxEntries → listIn (putList w l xs) m ≡ listIn w m
   unfolding listIn
-  list-past m h g c = ap (λ (i : ℕ). refsAt (putList w l xs) (4 + m * 1024) i) (count-kept m (omega arith) (λ e. omega arith))
-      ∙ refs-same w (putList w l xs) (4 + m * 1024) (countIn w m) (λ i a b. word-put-past i (omega arith))
+  list-past m h g c = ap (λ (i : ℕ). refsAt (putList w l xs) (fromOf m) i) (count-kept m (omega arith) (λ e. omega arith))
+      ∙ refs-same w (putList w l xs) (fromOf m) (countIn w m) (λ i a b. word-put-past i (omega arith))
 
-  pub warnings-kept : (m : ℕ) → warningsAt (putList w l xs) 3076 m ≡ warningsAt w 3076 m
-  warnings-kept m = warnings-same w (putList w l xs) 3076 m (λ i a b. word-put-past i (omega arith))
+  pub warnings-kept : (m : ℕ) → warningsAt (putList w l xs) (fromOf 3) m ≡ warningsAt w (fromOf 3) m
+  warnings-kept m = warnings-same w (putList w l xs) (fromOf 3) m (λ i a b. word-put-past i (omega arith))
 
 -- ---- three lists written over
-module _ (f : List ℕ) (c m d : List EntityRef) (s : length f ≡ setWords) (x : length c ≤ 512) (y : length m ≤ 512) (z : length d ≤ 512) where
+module _ (f : List ℕ) (c m d : List EntityRef) (s : length f ≡ setWords) (x : length c ≤ maxEntries) (y : length m ≤ maxEntries) (z : length d ≤ maxEntries) where
   s1 : length (putList f 0 c) ≡ setWords
   s1 = size-put f 0 c (omega arith) x s
 
@@ -82,13 +82,13 @@ module _ (f : List ℕ) (c m d : List EntityRef) (s : length f ≡ setWords) (x 
   unfolding putLists
   size-lists = size-put (putList (putList f 0 c) 1 m) 2 d (omega arith) z s2
 
-  few-0 : countIn (putList f 0 c) 0 ≤ 512
+  few-0 : countIn (putList f 0 c) 0 ≤ maxEntries
   few-0 = let u = count-put f 0 c (omega arith) x s in omega arith
 
-  few-1 : countIn (putList (putList f 0 c) 1 m) 1 ≤ 512
+  few-1 : countIn (putList (putList f 0 c) 1 m) 1 ≤ maxEntries
   few-1 = let u = count-put (putList f 0 c) 1 m (omega arith) y s1 in omega arith
 
-  few-01 : countIn (putList (putList f 0 c) 1 m) 0 ≤ 512
+  few-01 : countIn (putList (putList f 0 c) 1 m) 0 ≤ maxEntries
   few-01 = let u = few-0 in let v = count-kept (putList f 0 c) 1 m (omega arith) y s1 0 (omega arith) (λ e. omega arith) in omega arith
 
   pub lists-0 : listIn (putLists f c m d) 0 ≡ c
@@ -104,7 +104,7 @@ module _ (f : List ℕ) (c m d : List EntityRef) (s : length f ≡ setWords) (x 
   unfolding putLists
   lists-2 = list-put (putList (putList f 0 c) 1 m) 2 d (omega arith) z s2
 
-  pub lists-warnings : (n : ℕ) → warningsAt (putLists f c m d) 3076 n ≡ warningsAt f 3076 n
+  pub lists-warnings : (n : ℕ) → warningsAt (putLists f c m d) (fromOf 3) n ≡ warningsAt f (fromOf 3) n
   unfolding putLists
   lists-warnings n = warnings-kept (putList (putList f 0 c) 1 m) 2 d (omega arith) z s2 n ∙ warnings-kept (putList f 0 c) 1 m (omega arith) y s1 n ∙ warnings-kept f 0 c (omega arith) x s n
 
@@ -117,15 +117,15 @@ module _ (f : List ℕ) (c m d : List EntityRef) (s : length f ≡ setWords) (x 
 module _ (w : List ℕ) (v : ℕ) where
   pub warned-list : (l : ℕ) → l < 3 → listIn (set w 3 v) l ≡ listIn w l
   unfolding listIn countIn
-  warned-list l h = ap (λ (n : ℕ). refsAt (set w 3 v) (4 + l * 1024) n) (getD-set-other w 3 l v 0 (λ e. omega arith))
-      ∙ refs-same w (set w 3 v) (4 + l * 1024) (getD w l 0) (λ i a b. getD-set-other w 3 i v 0 (λ e. omega arith))
+  warned-list l h = ap (λ (n : ℕ). refsAt (set w 3 v) (fromOf l) n) (getD-set-other w 3 l v 0 (λ e. omega arith))
+      ∙ refs-same w (set w 3 v) (fromOf l) (getD w l 0) (λ i a b. getD-set-other w 3 i v 0 (λ e. omega arith))
 
-quiet : (w : List ℕ) → 3 < length w → warningsAt (set w 3 0) 3076 (countIn (set w 3 0) 3) ≡ []
+quiet : (w : List ℕ) → 3 < length w → warningsAt (set w 3 0) (fromOf 3) (countIn (set w 3 0) 3) ≡ []
 unfolding warningsAt countIn
-quiet w h = ap (λ (n : ℕ). warningsAt (set w 3 0) 3076 n) (getD-set-same w 3 0 0 h)
+quiet w h = ap (λ (n : ℕ). warningsAt (set w 3 0) (fromOf 3) n) (getD-set-same w 3 0 0 h)
 
 -- the set of a table whose lists are written over and whose warnings are gone
-pub set-written : (f : List ℕ) (c m d : List EntityRef) → length f ≡ setWords → length c ≤ 512 → length m ≤ 512 → length d ≤ 512
+pub set-written : (f : List ℕ) (c m d : List EntityRef) → length f ≡ setWords → length c ≤ maxEntries → length m ≤ maxEntries → length d ≤ maxEntries
     → changeSetOf (set (putLists f c m d) 3 0) ≡ record { created = c; modified = m; deleted = d; warnings = [] }
 unfolding changeSetOf
 set-written f c m d s x y z =
@@ -182,25 +182,37 @@ module _ (u v : List ℕ) (room : ℕ) (r : Counts) (g : ChangeSet) (h : Made u 
   length-d : r .deleted ≡ length (g .deleted)
   length-d = sym (length-to v (room * 4 + r .deleted * 2) (r .deleted)) ∙ ap length (h .deleted)
 
-  unfit-c : 512 < r .created → foldFits g ≡ false
+  unfit-c : maxEntries < r .created → foldFits g ≡ false
   unfolding foldFits
-  unfit-c k = let e = length-c in rw (lt-leb (length (g .created)) 512 (omega arith))
+  unfit-c k = let e = length-c in rw (lt-leb (length (g .created)) maxEntries (omega arith))
 
-  unfit-m : 512 < r .modified → foldFits g ≡ false
+  unfit-m : maxEntries < r .modified → foldFits g ≡ false
   unfolding foldFits
-  unfit-m k = let e = length-m in rw (lt-leb (length (g .modified)) 512 (omega arith), and-no (leb (length (g .created)) 512))
+  unfit-m k = let e = length-m in rw (lt-leb (length (g .modified)) maxEntries (omega arith), and-no (leb (length (g .created)) maxEntries))
 
-  unfit-d : 512 < r .deleted → foldFits g ≡ false
+  unfit-d : maxEntries < r .deleted → foldFits g ≡ false
   unfolding foldFits
-  unfit-d k = let e = length-d in rw (lt-leb (length (g .deleted)) 512 (omega arith)) (and-no (leb (length (g .created)) 512 && leb (length (g .modified)) 512))
+  unfit-d k = let e = length-d in rw (lt-leb (length (g .deleted)) maxEntries (omega arith)) (and-no (leb (length (g .created)) maxEntries && leb (length (g .modified)) maxEntries))
 
-  fit : r .created ≤ 512 → r .modified ≤ 512 → r .deleted ≤ 512 → foldFits g ≡ true
+  fit : r .created ≤ maxEntries → r .modified ≤ maxEntries → r .deleted ≤ maxEntries → foldFits g ≡ true
   unfolding foldFits
   fit a b d =
       let x = length-c in
       let y = length-m in
       let z = length-d in
-      and-i _ _ (and-i _ _ (le-leb (length (g .created)) 512 (omega arith)) (le-leb (length (g .modified)) 512 (omega arith))) (le-leb (length (g .deleted)) 512 (omega arith))
+      and-i _ _ (and-i _ _ (le-leb (length (g .created)) maxEntries (omega arith)) (le-leb (length (g .modified)) maxEntries (omega arith))) (le-leb (length (g .deleted)) maxEntries (omega arith))
+
+  pub over-created : 512 < r .created → false ≡ foldFits g
+  over-created k = sym (unfit-c k)
+
+  pub over-modified : 512 < r .modified → false ≡ foldFits g
+  over-modified k = sym (unfit-m k)
+
+  pub over-deleted : 512 < r .deleted → false ≡ foldFits g
+  over-deleted k = sym (unfit-d k)
+
+  pub not-over : r .created ≤ 512 → r .modified ≤ 512 → r .deleted ≤ 512 → true ≡ foldFits g
+  not-over a b d = sym (fit a b d)
 
 no-warnings : (x y : ChangeSet) → foldStep x y ≡ record { created = foldStep x y .created; modified = foldStep x y .modified; deleted = foldStep x y .deleted; warnings = [] }
 unfolding foldStep normalize
@@ -211,16 +223,16 @@ unfolding foldFitted
 too-long f c e = record { answer = rw e; unchanged = λ _. refl }
 
 module _ (f c u v : List ℕ) (room : ℕ) (r : Counts) (h : Made u v room r (foldStep (changeSetOf f) (changeSetOf c))) where
-  pub full-created : 512 < r .created → FoldsTo f c (Refused Full) f
+  pub full-created : maxEntries < r .created → FoldsTo f c (Refused Full) f
   full-created k = too-long f c (unfit-c u v room r _ h k)
 
-  pub full-modified : 512 < r .modified → FoldsTo f c (Refused Full) f
+  pub full-modified : maxEntries < r .modified → FoldsTo f c (Refused Full) f
   full-modified k = too-long f c (unfit-m u v room r _ h k)
 
-  pub full-deleted : 512 < r .deleted → FoldsTo f c (Refused Full) f
+  pub full-deleted : maxEntries < r .deleted → FoldsTo f c (Refused Full) f
   full-deleted k = too-long f c (unfit-d u v room r _ h k)
 
-  module _ (s : length f ≡ setWords) (a : r .created ≤ 512) (b : r .modified ≤ 512) (d : r .deleted ≤ 512) (f′ : List ℕ)
+  module _ (s : length f ≡ setWords) (a : r .created ≤ maxEntries) (b : r .modified ≤ maxEntries) (d : r .deleted ≤ maxEntries) (f′ : List ℕ)
       (e : f′ ≡ putLists f (createdIn v room r) (modifiedIn u room r) (deletedIn v room r)) where
     pub folded-size : length f′ ≡ setWords
     folded-size = ap length e ∙ size-lists f _ _ _ s
@@ -264,13 +276,13 @@ pub ruleset testing = (stop-first, stop-second, stop-third)
 
 -- ---- which tables fit
 module _ (t : List ℕ) (s : length t ≡ setWords) where
-  fits-one : (l : ℕ) → entries .fits (listIn t l) ≡ true → (countIn t l ≤ 512) × (risingRefs (listIn t l) ≡ true)
+  fits-one : (l : ℕ) → entries .fits (listIn t l) ≡ true → (countIn t l ≤ maxEntries) × (risingRefs (listIn t l) ≡ true)
   fits-one l h = (let u = entries-few (listIn t l) h in let v = length-in t l in omega arith, entries-rise (listIn t l) h)
 
   pub fits-each : (entries .fits (listIn t 0) && entries .fits (listIn t 1) && entries .fits (listIn t 2)) ≡ true → Fits t
   fits-each h = record { room = record { size = s; few = λ l k. one l k .0 }; rises = λ l k. one l k .1 }
     where
-      one : (l : ℕ) → l < 3 → (countIn t l ≤ 512) × (risingRefs (listIn t l) ≡ true)
+      one : (l : ℕ) → l < 3 → (countIn t l ≤ maxEntries) × (risingRefs (listIn t l) ≡ true)
       one zero k = fits-one 0 (search parts)
       one (suc zero) k = fits-one 1 (search parts)
       one (suc (suc zero)) k = fits-one 2 (search parts)
@@ -284,40 +296,40 @@ no-of : (r : Bool) → not r ≡ true → r ≡ false
 no-of true e = sym e
 no-of false e = refl
 
-pub list-told : (t : List ℕ) (l n : ℕ) (r : Bool) → n ≡ getD t l 0 → r ≡ entries .fits (refsAt t (4 + l * 1024) n) → r ≡ entries .fits (listIn t l)
+pub list-told : (t : List ℕ) (l n : ℕ) (r : Bool) → n ≡ getD t l 0 → r ≡ entries .fits (refsAt t (fromOf l) n) → r ≡ entries .fits (listIn t l)
 unfolding listIn countIn
 list-told t l n r e h = rw (← e) h
 
 module _ (t : List ℕ) (l m a b : ℕ) (h : Fits t) (k : l < 3) (g : m < 3) (e : a ≡ getD t l 0) (d : b ≡ getD t m 0) where
-  pub apart-asks : Walks t (4 + l * 1024 + a * 2) a × Walks t (4 + m * 1024 + b * 2) b
+  pub apart-asks : Walks t (fromOf l + a * 2) a × Walks t (fromOf m + b * 2) b
   apart-asks = (walks t l a h k e, walks t m b h g d)
 
-  pub apart-told : (r : Bool) → r ≡ apart (refsTo t (4 + l * 1024 + a * 2) a) (refsTo t (4 + m * 1024 + b * 2) b) → r ≡ apart (listIn t l) (listIn t m)
+  pub apart-told : (r : Bool) → r ≡ apart (refsTo t (fromOf l + a * 2) a) (refsTo t (fromOf m + b * 2) b) → r ≡ apart (listIn t l) (listIn t m)
   apart-told r q = rw (walked t l a h k e, walked t m b h g d) at q
 
 module _ (t : List ℕ) where
-  pub ok-size : (length t ≡ 3556 → ⊥) → false ≡ listsOkIn t
+  pub ok-size : (length t ≡ setWords → ⊥) → false ≡ listsOkIn t
   unfolding listsOkIn
-  ok-size f = rw (ne-eqb (length t) 3556 f)
+  ok-size f = rw (ne-eqb (length t) setWords f)
 
-  module _ (s : length t ≡ 3556) (r : Bool) (h : r ≡ (entries .fits (listIn t 0) && entries .fits (listIn t 1) && entries .fits (listIn t 2))) where
+  module _ (s : length t ≡ setWords) (r : Bool) (h : r ≡ (entries .fits (listIn t 0) && entries .fits (listIn t 1) && entries .fits (listIn t 2))) where
     pub ok-stop : not r ≡ true → false ≡ listsOkIn t
     unfolding listsOkIn listsOk changeSetOf
-    ok-stop n = rw (eq-eqb (length t) 3556 s, ← h, no-of r n)
+    ok-stop n = rw (eq-eqb (length t) setWords s, ← h, no-of r n)
 
     pub ok-fits : not r ≡ false → Fits t
     ok-fits n = fits-each t s (sym h ∙ yes-of r n)
 
     pub ok-told : not r ≡ false → (q : Bool) → q ≡ listsApart (changeSetOf t) → q ≡ listsOkIn t
     unfolding listsOkIn listsOk changeSetOf
-    ok-told n q e = rw (eq-eqb (length t) 3556 s, ← h, yes-of r n) e
+    ok-told n q e = rw (eq-eqb (length t) setWords s, ← h, yes-of r n) e
 
 pub ruleset telling = (ok-size, ok-stop, ok-fits, ok-told)
 
 -- ---- the fold call
 pub ok-size-of : (t : List ℕ) → listsOkIn t ≡ true → length t ≡ setWords
 unfolding listsOkIn
-ok-size-of t h = eqb-true (length t) 3556 (search parts)
+ok-size-of t h = eqb-true (length t) setWords (search parts)
 
 pub ok-lists : (t : List ℕ) → listsOkIn t ≡ true → listsOk (changeSetOf t) ≡ true
 unfolding listsOkIn
@@ -326,6 +338,18 @@ ok-lists t h = search parts
 pub fits-ok : (t : List ℕ) → listsOkIn t ≡ true → Fits t
 unfolding changeSetOf listsOk
 fits-ok t h = fits-each t (ok-size-of t h) (and-l _ (listsApart (changeSetOf t)) (ok-lists t h))
+
+pub fits-joins : (f c u : List ℕ) (room : ℕ) → Fits f → Fits c → 1024 ≤ room → room * 6 ≤ length u → Joins u room f c
+fits-joins f c u room x y w s =
+    let f0 = x .room .few 0 (omega arith) in
+    let f1 = x .room .few 1 (omega arith) in
+    let f2 = x .room .few 2 (omega arith) in
+    let c0 = y .room .few 0 (omega arith) in
+    let c1 = y .room .few 1 (omega arith) in
+    let c2 = y .room .few 2 (omega arith) in
+    record { first = x; second = y; created = omega arith; modified = omega arith; deleted = omega arith; size = s }
+
+pub ruleset fitting = (fits-joins, over-created, over-modified, over-deleted, not-over)
 
 module _ (f c : List ℕ) (p : Bool) (a : p ≡ listsOkIn f) where
   pub bad-fold : not p ≡ true → FoldCalled f c (Refused BadSet) f
@@ -338,18 +362,6 @@ module _ (f c : List ℕ) (p : Bool) (a : p ≡ listsOkIn f) where
     bad-set n = record { answer = rw (← b, no-of q n, and-no (listsOkIn f)); unchanged = λ _. refl }
 
     module _ (n : not q ≡ false) where
-      pub fold-asks : (u : List ℕ) (room : ℕ) → 1024 ≤ room → room * 6 ≤ length u → Joins u room f c
-      fold-asks u room w s =
-          let x = fits-ok f (sym a ∙ yes-of p m) in
-          let y = fits-ok c (sym b ∙ yes-of q n) in
-          let f0 = x .room .few 0 (omega arith) in
-          let f1 = x .room .few 1 (omega arith) in
-          let f2 = x .room .few 2 (omega arith) in
-          let c0 = y .room .few 0 (omega arith) in
-          let c1 = y .room .few 1 (omega arith) in
-          let c2 = y .room .few 2 (omega arith) in
-          record { first = x; second = y; created = omega arith; modified = omega arith; deleted = omega arith; size = s }
-
       pub fold-called : (r : Folded) (f′ : List ℕ) → FoldsTo f c r f′ → FoldCalled f c r f′
       unfolding foldTables foldCall foldFitted
       fold-called r f′ t = record {

@@ -6,7 +6,7 @@ use mathlib.Core.List.{List, _++_}
 use lib.ListN.{length, set}
 use Rattle.map.specs.Entity.{EntityRef}
 use Rattle.changes.specs.ChangeSet.{ChangeSet, sortRefs, without}
-use Rattle.changes.specs.ChangeFile.{risingRefs}
+use Rattle.changes.specs.ChangeFile.{maxEntries, risingRefs}
 use Rattle.changes.specs.Layout.{setWords, fromOf, countIn, listIn}
 use Rattle.changes.specs.Walk.{refsTo, Walks, written}
 use Rattle.sets.specs.declared.Counts.{Counts}
@@ -14,7 +14,7 @@ use Rattle.sets.specs.declared.Counts.{Counts}
 -- a table whose counts are within their lists' room
 pub record Roomy (w : List ℕ) : Type 0 where
   pub size : length w ≡ setWords
-  pub few : (l : ℕ) → l < 3 → countIn w l ≤ 512
+  pub few : (l : ℕ) → l < 3 → countIn w l ≤ maxEntries
 
 -- how many entries the lists of two tables have in all
 unfoldable pub crowdOf : List ℕ → List ℕ → ℕ
@@ -97,9 +97,9 @@ pub record Stores (f u v : List ℕ) (room : ℕ) (n : Counts) : Type 0 where
   pub created-few : n .created ≤ room
   pub modified-few : n .modified ≤ room
   pub deleted-few : n .deleted ≤ room
-  pub created-fits : n .created ≤ 512
-  pub modified-fits : n .modified ≤ 512
-  pub deleted-fits : n .deleted ≤ 512
+  pub created-fits : n .created ≤ maxEntries
+  pub modified-fits : n .modified ≤ maxEntries
+  pub deleted-fits : n .deleted ≤ maxEntries
 
 unfoldable pub putLists : List ℕ → List EntityRef → List EntityRef → List EntityRef → List ℕ
 putLists f c m d = putList (putList (putList f 0 c) 1 m) 2 d

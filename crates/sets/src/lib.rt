@@ -8,10 +8,12 @@ ghost use Rattle.changes.specs.Layout.{setWords, countIn, listIn};
 ghost use Rattle.changes.specs.Walk.{refsTo, Put};
 ghost use mathlib.Core.Bool.{_&&_};
 ghost use Rattle.changes.specs.ChangeSet.{foldStep};
-ghost use Rattle.changes.specs.ChangeFile.{entries, apart, listsApart};
+ghost use Rattle.changes.specs.Running.{foldFits};
+ghost use Rattle.changes.specs.ChangeFile.{maxEntries, entries, apart, listsApart};
 ghost use Rattle.changes.specs.Layout.{changeSetOf, listsOkIn};
 ghost use Rattle.sets.specs.Tables.{crowdOf, putList, putLists, createdIn, modifiedIn, deletedIn, Fits, Joins, United, Rises, Settled, Made, Stores};
 ghost use Rattle.sets.specs.Fold.{FoldsTo, FoldCalled};
+use changes::layout;
 use refusal::Refusal;
 
 // What a fold answers.
@@ -29,10 +31,10 @@ pub struct Counts {
 
 // List l is to be the n entries of t that end at e.
 pub fn put_list(f: &mut [u64], l: usize, t: &[u64], e: usize, n: usize)
-    requires { ⌜ (length (now f) ≡ setWords) × (l < 3) × (n ≤ 512) × (n * 2 ≤ e) × (e ≤ length (now t)) ⌝ }
+    requires { ⌜ (length (now f) ≡ setWords) × (l < 3) × (n ≤ maxEntries) × (n * 2 ≤ e) × (e ≤ length (now t)) ⌝ }
     ensures { λ _. ⌜ now (f .exit) ≡ putList (now (f .entry)) l (refsTo (now (t .entry)) e n) ⌝ }
 {
-    changes::lists::copy(f, 4 + l * 1024, t, e, n);
+    changes::lists::copy(f, layout::LISTS + l * layout::LIST, t, e, n);
     f[l] = n as u64;
 }
 
@@ -43,7 +45,7 @@ pub fn unite_list(u: &mut [u64], p: usize, f: &[u64], c: &[u64], l: usize) -> us
 {
     let a = rows::index(f[l]);
     let b = rows::index(c[l]);
-    let from = 4 + l * 1024;
+    let from = layout::LISTS + l * layout::LIST;
     changes::lists::union(u, p, f, from + a * 2, a, c, from + b * 2, b)
 }
 
@@ -118,13 +120,13 @@ pub fn fold_in(f: &mut [u64], c: &[u64], u: &mut [u64], v: &mut [u64], room: usi
     ensures { λ r. ⌜ FoldsTo (now (f .entry)) (now (c .entry)) r (now (f .exit)) ⌝ }
 {
     let n = gather(u, v, room, f, c);
-    if 512 < n.created {
+    if layout::ENTRIES < n.created {
         return Folded::Refused(Refusal::Full);
     }
-    if 512 < n.modified {
+    if layout::ENTRIES < n.modified {
         return Folded::Refused(Refusal::Full);
     }
-    if 512 < n.deleted {
+    if layout::ENTRIES < n.deleted {
         return Folded::Refused(Refusal::Full);
     }
     store(f, u, v, room, n);
@@ -137,7 +139,7 @@ pub fn list_ok(t: &[u64], l: usize) -> bool
     requires { ⌜ (length (now t) ≡ setWords) × (l < 3) ⌝ }
     ensures { λ r. ⌜ r ≡ entries .fits (listIn (now (t .entry)) l) ⌝ }
 {
-    changes::lists::entries_ok(t, 4 + l * 1024, rows::index(t[l]))
+    changes::lists::entries_ok(t, layout::LISTS + l * layout::LIST, rows::index(t[l]))
 }
 
 pub fn each_ok(t: &[u64]) -> bool
@@ -160,7 +162,13 @@ pub fn two_apart(t: &[u64], l: usize, m: usize) -> bool
 {
     let a = rows::index(t[l]);
     let b = rows::index(t[m]);
-    changes::lists::are_apart(t, 4 + l * 1024 + a * 2, a, 4 + m * 1024 + b * 2, b)
+    changes::lists::are_apart(
+        t,
+        layout::LISTS + l * layout::LIST + a * 2,
+        a,
+        layout::LISTS + m * layout::LIST + b * 2,
+        b,
+    )
 }
 
 pub fn all_apart(t: &[u64]) -> bool
@@ -180,7 +188,7 @@ pub fn all_apart(t: &[u64]) -> bool
 pub fn lists_ok(t: &[u64]) -> bool
     ensures { λ r. ⌜ r ≡ listsOkIn (now (t .entry)) ⌝ }
 {
-    if t.len() != 3556 {
+    if t.len() != layout::WORDS {
         return false;
     }
     if !each_ok(t) {
@@ -210,6 +218,40 @@ pub fn fold_few(f: &mut [u64], c: &[u64]) -> Folded
     fold_in(f, c, &mut u, &mut v, 64)
 }
 
+// The fold of f and c, whose lists are those of sets, in f.
+pub fn fold_fitted(f: &mut [u64], c: &[u64]) -> Folded
+    requires { ⌜ Fits (now f) × Fits (now c) ⌝ }
+    ensures { λ r. ⌜ FoldsTo (now (f .entry)) (now (c .entry)) r (now (f .exit)) ⌝ }
+{
+    // few entries ask for few words to work in
+    if crowd(f, c) <= 64 {
+        return fold_few(f, c);
+    }
+    let mut u = [0; 6144];
+    let mut v = [0; 6144];
+    fold_in(f, c, &mut u, &mut v, 1024)
+}
+
+// Whether the lists of that fold would be within their room.
+pub fn fold_fits(f: &[u64], c: &[u64]) -> bool
+    requires { ⌜ Fits (now f) × Fits (now c) ⌝ }
+    ensures { λ r. ⌜ r ≡ foldFits (foldStep (changeSetOf (now (f .entry))) (changeSetOf (now (c .entry)))) ⌝ }
+{
+    let mut u = [0; 6144];
+    let mut v = [0; 6144];
+    let n = gather(&mut u, &mut v, 1024, f, c);
+    if layout::ENTRIES < n.created {
+        return false;
+    }
+    if layout::ENTRIES < n.modified {
+        return false;
+    }
+    if layout::ENTRIES < n.deleted {
+        return false;
+    }
+    true
+}
+
 // The fold call: c taken into f. 13 for lists that are not those of a set, 10 where a list would be too long; then f is as it was.
 pub fn fold(f: &mut [u64], c: &[u64]) -> Folded
     ensures { λ r. ⌜ FoldCalled (now (f .entry)) (now (c .entry)) r (now (f .exit)) ⌝ }
@@ -220,11 +262,5 @@ pub fn fold(f: &mut [u64], c: &[u64]) -> Folded
     if !lists_ok(c) {
         return Folded::Refused(Refusal::BadSet);
     }
-    // few entries ask for few words to work in
-    if crowd(f, c) <= 64 {
-        return fold_few(f, c);
-    }
-    let mut u = [0; 6144];
-    let mut v = [0; 6144];
-    fold_in(f, c, &mut u, &mut v, 1024)
+    fold_fitted(f, c)
 }

@@ -1,0 +1,3 @@
+pub mod Lifting
+pub mod Noting
+pub mod Applying
