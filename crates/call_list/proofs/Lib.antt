@@ -1,0 +1,6 @@
+pub mod Places
+pub mod Replies
+pub mod Steps
+pub mod Walk
+pub mod Ends
+pub mod Decode

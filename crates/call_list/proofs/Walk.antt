@@ -1,0 +1,165 @@
+-- A list of calls, row by row: what is left to do at row i, and what the end is. Assumes nothing.
+use Prim.Native.Nat.{ℕ, zero, suc, _+_, _-_, _*_, _≤_, _<_}
+use mathlib.Core.Path.{_≡_, refl, sym, ap, subst, _∙_}
+use mathlib.Core.Bool.{Bool, true, false}
+use mathlib.Core.Option.{Option, none, some}
+use mathlib.Core.List.{List, [], _∷_, _++_, append-assoc, append-nil}
+use lib.ListN.{length, take, drop, length-take, length-append, take-append-drop}
+use lib.Seq.{take-all, take-at, drop-at, drop-drop}
+use native.Mathlib.Nat.{sub-zero}
+use native.Mathlib.Omega.{arith}
+use Rattle.refusal.specs.Answer.{Answer, refused, done}
+use Rattle.rows.specs.Lists.{listTo, joined}
+use Rattle.rows.specs.Rows.{cut, pasted}
+use Rattle.rows.proofs.Indexed.{tab, tab-step, tab-none, listTo-tab, length-listTo}
+use Rattle.rows.proofs.RowLaws.{length-pasted}
+use Rattle.changes.specs.ChangeSet.{ChangeSet}
+use Rattle.changes.specs.Running.{State}
+use Rattle.edit.specs.Edit.{Outcome}
+use Rattle.edit.specs.Lent.{Lent, stateOf}
+use Rattle.run.specs.Run.{Edit, runOne, runAll, setsOf, calls, stateAfter, setsAfter}
+use Rattle.call_list.specs.declared.Reply.{Reply}
+use Rattle.call_list.specs.Reply.{replyOf, noCall, replyWords}
+use Rattle.call_list.specs.Step.{Held, heldOf, heldAfter, replyTo, heldBy, StepLeft}
+use Rattle.call_list.specs.Rows.{ifCall, editsOf}
+use Rattle.call_list.specs.Ran.{replies, lastSet}
+use Rattle.call_list.proofs.Steps.{Fitting, lent-run}
+
+-- where the rows lead, and their answers
+unfoldable pub walk : List (Option Edit) → Held → Held
+walk [] h = h
+walk (none ∷ rows) h = walk rows h
+walk (some e ∷ rows) h = walk rows (heldAfter h (runOne e (h .state)))
+
+unfoldable pub told : List (Option Edit) → Held → List ℕ
+told [] h = []
+told (none ∷ rows) h = noCall ++ told rows h
+told (some e ∷ rows) h = let a = runOne e (h .state) in replyOf a ++ told rows (heldAfter h a)
+
+-- ---- the definition's run
+
+after-state : (h : Held) (a : Answer Outcome) → heldAfter h a .state ≡ stateAfter (h .state) a
+after-state h (refused n ds) = refl
+after-state h (done o) = refl
+
+after-set : (h : Held) (a : Answer Outcome) (cs : List ChangeSet) → lastSet (heldAfter h a .set) cs ≡ lastSet (h .set) (setsAfter a ++ cs)
+unfolding lastSet
+after-set h (refused n ds) cs = refl
+after-set h (done o) cs = refl
+
+pub walk-state : (rows : List (Option Edit)) (h : Held) → walk rows h .state ≡ runAll (editsOf rows) (h .state)
+unfolding walk runAll editsOf joined
+walk-state [] h = refl
+walk-state (none ∷ rows) h = walk-state rows h
+walk-state (some e ∷ rows) h = walk-state rows (heldAfter h (runOne e (h .state))) ∙ ap (runAll (editsOf rows)) (after-state h (runOne e (h .state)))
+
+pub walk-set : (rows : List (Option Edit)) (h : Held) → walk rows h .set ≡ lastSet (h .set) (setsOf (editsOf rows) (h .state))
+unfolding walk setsOf editsOf joined lastSet
+walk-set [] h = refl
+walk-set (none ∷ rows) h = walk-set rows h
+walk-set (some e ∷ rows) h =
+    walk-set rows (heldAfter h (runOne e (h .state)))
+    ∙ ap (λ (s : State). lastSet (heldAfter h (runOne e (h .state)) .set) (setsOf (editsOf rows) s)) (after-state h (runOne e (h .state)))
+    ∙ after-set h (runOne e (h .state)) (setsOf (editsOf rows) (stateAfter (h .state) (runOne e (h .state))))
+
+pub told-replies : (rows : List (Option Edit)) (h : Held) → told rows h ≡ replies rows (calls (editsOf rows) (h .state))
+unfolding told replies calls editsOf joined
+told-replies [] h = refl
+told-replies (none ∷ rows) h = ap (λ (l : List ℕ). noCall ++ l) (told-replies rows h)
+told-replies (some e ∷ rows) h =
+    ap (λ (l : List ℕ). replyOf (runOne e (h .state)) ++ l)
+    (told-replies rows (heldAfter h (runOne e (h .state))) ∙ ap (λ (s : State). replies rows (calls (editsOf rows) s)) (after-state h (runOne e (h .state))))
+
+-- ---- one row further
+
+walk-step : (o : Option Edit) (rows : List (Option Edit)) (old : Lent) (r : Reply) (new : Lent) → Fitting old → StepLeft o old r new
+    → walk (o ∷ rows) (heldOf old) ≡ walk rows (heldOf new)
+unfolding walk heldBy
+walk-step none rows old r new f s = ap (walk rows) (sym (s .held))
+walk-step (some e) rows old r new f s = ap (walk rows) (ap (heldAfter (heldOf old)) (sym (lent-run e old f)) ∙ sym (s .held))
+
+told-after : (rows : List (Option Edit)) (v w : List ℕ) (h k : Held) → v ≡ w → h ≡ k → w ++ told rows k ≡ v ++ told rows h
+told-after rows v w h k p q = ap (λ (l : List ℕ). l ++ told rows k) (sym p) ∙ ap (λ (x : Held). v ++ told rows x) (sym q)
+
+told-step : (o : Option Edit) (rows : List (Option Edit)) (old : Lent) (r : Reply) (new : Lent) → Fitting old → StepLeft o old r new
+    → told (o ∷ rows) (heldOf old) ≡ replyWords r ++ told rows (heldOf new)
+unfolding told heldBy replyTo
+told-step none rows old r new f s = told-after rows (replyWords r) _ (heldOf new) _ (s .reply) (s .held)
+told-step (some e) rows old r new f s =
+    ap (λ (a : Answer Outcome). replyOf a ++ told rows (heldAfter (heldOf old) a)) (sym (lent-run e old f)) ∙ told-after rows (replyWords r) _ (heldOf new) _ (s .reply) (s .held)
+
+-- ---- answers as they are stored
+
+module _ (l row : List ℕ) (at : ℕ) (e : length row ≡ 4) (h : at + 4 ≤ length l) where
+  before-row : length (take at l) ≡ at
+  before-row = simp length-take (omega arith)
+
+  row-end : length (take at l ++ row) ≡ at + 4
+  row-end = length-append (take at l) row ∙ go before-row
+    where
+      go : length (take at l) ≡ at → length (take at l) + length row ≡ at + 4
+      go q = omega (arith, q, e)
+
+  stored-take : take (at + 4) (pasted l at row 4) ≡ take at l ++ row
+  unfolding pasted
+  stored-take = rw (take-all 4 row (omega arith)) (take-at (take at l ++ row) (drop (at + 4) l) (at + 4) row-end)
+
+  stored-drop : drop (at + 4) (pasted l at row 4) ≡ drop (at + 4) l
+  unfolding pasted
+  stored-drop = rw (take-all 4 row (omega arith)) (drop-at (take at l ++ row) (drop (at + 4) l) (at + 4) row-end)
+
+-- ---- the loop
+
+-- at row i of n: what is left to do from here is what was left at the beginning, and the answers so far stand before those to come
+pub record Going (f : ℕ → Option Edit) (n : ℕ) (h : Held) (answers : List ℕ) (i : ℕ) (l : Lent) (answers′ : List ℕ) : Type 0 where
+  pub at : i ≤ n
+  pub fits : Fitting l
+  pub held : walk (tab f i (n - i)) (heldOf l) ≡ walk (listTo f n) h
+  pub words : take (i * 4) answers′ ++ told (tab f i (n - i)) (heldOf l) ≡ told (listTo f n) h
+  pub rest : drop (i * 4) answers′ ≡ drop (i * 4) answers
+  pub size : length answers′ ≡ length answers
+
+pub going-start : (f : ℕ → Option Edit) (n : ℕ) (l : Lent) (answers : List ℕ) → Fitting l → Going f n (heldOf l) answers 0 l answers
+going-start f n l answers q = record {
+  at = omega arith;
+  fits = q;
+  held = rw (listTo-tab f n, sub-zero);
+  words = rw (listTo-tab f n, sub-zero);
+  rest = refl;
+  size = refl;
+}
+
+pub going-on : (f : ℕ → Option Edit) (n : ℕ) (h : Held) (answers : List ℕ) (i : ℕ) (l : Lent) (answers′ : List ℕ) (r : Reply) (l′ : Lent)
+    → n * 4 ≤ length answers → i < n → Fitting l′ → StepLeft (f i) l r l′ → Going f n h answers i l answers′
+    → Going f n h answers (i + 1) l′ (pasted answers′ (i * 4) (replyWords r) 4)
+going-on f n h answers i l answers′ r l′ room q fit s g =
+    let e : (i + 1) * 4 ≡ i * 4 + 4 = omega arith in
+    let z : i * 4 + 4 ≤ length answers′ = omega (arith, g .size) in
+    record {
+      at = omega arith;
+      fits = fit;
+      held = sym (walk-step (f i) (tab f (i + 1) (n - (i + 1))) l r l′ (g .fits) s) ∙ ap (λ (t : List (Option Edit)). walk t (heldOf l)) (sym (tab-step f n i q)) ∙ g .held;
+      words =
+          rw (e, stored-take answers′ (replyWords r) (i * 4) refl z)
+          (append-assoc (take (i * 4) answers′) (replyWords r) (told (tab f (i + 1) (n - (i + 1))) (heldOf l′))
+          ∙ ap (λ (t : List ℕ). take (i * 4) answers′ ++ t) (sym (told-step (f i) (tab f (i + 1) (n - (i + 1))) l r l′ (g .fits) s) ∙ ap (λ (t : List (Option Edit)). told t (heldOf l)) (sym (tab-step f n i q)))
+          ∙ g .words);
+      rest = rw (e, stored-drop answers′ (replyWords r) (i * 4) refl z) (drop-more answers′ answers (i * 4) (g .rest));
+      size = length-pasted answers′ (i * 4) (replyWords r) 4 z (omega arith) ∙ g .size;
+    }
+  where
+    drop-more : (a b : List ℕ) (k : ℕ) → drop k a ≡ drop k b → drop (k + 4) a ≡ drop (k + 4) b
+    drop-more a b k p = sym (drop-drop 4 k a) ∙ ap (drop 4) p ∙ drop-drop 4 k b
+
+-- the end
+pub going-end : (f : ℕ → Option Edit) (n : ℕ) (h : Held) (answers : List ℕ) (i : ℕ) (l : Lent) (answers′ : List ℕ) → n ≤ i → Going f n h answers i l answers′
+    → (heldOf l ≡ walk (listTo f n) h) × (answers′ ≡ told (listTo f n) h ++ drop (n * 4) answers)
+unfolding walk told
+going-end f n h answers i l answers′ q g =
+    let e : i ≡ n = omega (arith, g .at) in
+    let none = tab-none f n i q in (
+      ap (λ (t : List (Option Edit)). walk t (heldOf l)) (sym none) ∙ g .held,
+      sym (take-append-drop (i * 4) answers′)
+          ∙ ap (λ (t : List ℕ). t ++ drop (i * 4) answers′) (sym (append-nil (take (i * 4) answers′)) ∙ ap (λ (t : List (Option Edit)). take (i * 4) answers′ ++ told t (heldOf l)) (sym none) ∙ g .words)
+          ∙ ap (λ (t : List ℕ). told (listTo f n) h ++ t) (g .rest ∙ ap (λ (k : ℕ). drop (k * 4) answers) e),
+    )

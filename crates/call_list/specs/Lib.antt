@@ -1,0 +1,4 @@
+pub mod Reply
+pub mod Step
+pub mod Rows
+pub mod Ran
