@@ -186,6 +186,16 @@ module _ (edit : Map → Answer Draft) (m : Map) where
   edit-refused x h = rw h
 
   module _ (d : Draft) (h : edit m ≡ done d) where
+    -- its two tests, as the code answers them
+    pub plan-tests : (p w : Bool) → every pointOnMap (d .stored) ≡ p → withinCeilings (d .map) ≡ w → planned edit m ≡ ((refuseWhen (not p) 9 [] >> refuseWhen (not w) 10 []) >> done d)
+    unfolding planned
+    plan-tests p w ep ew = rw (h, ep, ew) (go p w)
+      where
+        go : (u v : Bool) → (refuseWhen (not u) 9 [] >> (refuseWhen (not v) 10 [] >> done d)) ≡ ((refuseWhen (not u) 9 [] >> refuseWhen (not v) 10 []) >> done d)
+        go false v = refl
+        go true false = refl
+        go true true = refl
+
     pub plan-off : every pointOnMap (d .stored) ≡ false → planned edit m ≡ refusedAs e.OffTheMap
     unfolding planned
     plan-off p = rw (h, p)
