@@ -97,6 +97,29 @@ group-keeps : sameList (setAndRules (addTrafficSignal (lightFor 6 (New (AtLaneEn
 unfolding open-stop-line open-light neg
 group-keeps = refl
 
+-- a group that is no light and controls crosswalks: the crosswalks are looked at first
+crosswalk-group : sameList (setOf (addTrafficSignal (lightFor 6 Automatic) (withMore 7 (record { num = 6; body = sign 2 none none; lanes = 3 ∷ []; controlled = 9 ∷ [] } ∷ [])))) (7 ∷ 1 ∷ []) ≡ true
+unfolding open-stop-line open-light neg
+crosswalk-group = refl
+
+-- line 4 is named on lane 8 only: a light on lanes 3 and 8 draws line 9
+abbrev second : State
+second =
+    let m = after start p1 .map in
+    opening (record {
+      next = 9;
+      lanes = m .lanes ++ map (λ l. record { num = 8; kind = l .kind; left = l .left; right = l .right; centerline = l .centerline }) (m .lanes);
+      boundaries = m .boundaries;
+      stopLines = m .stopLines;
+      signals = [];
+      crosswalks = [];
+      rules = record { num = 5; body = marking 4; lanes = 8 ∷ []; controlled = [] } ∷ [];
+    })
+
+first-lane : sameList (setOf (addTrafficSignal (vehicleLight (3 ∷ 8 ∷ [])) second)) (3 ∷ 5 ∷ 9 ∷ 6 ∷ 10 ∷ 8 ∷ 11 ∷ 0 ∷ 0 ∷ 1 ∷ 3 ∷ 0 ∷ []) ≡ true
+unfolding open-stop-line open-light neg
+first-lane = refl
+
 -- a sign of type 2 stays on the line; the stop sign goes
 other-sign : sameList (setOf (addTrafficSignal (vehicleLight (3 ∷ [])) (withMore 7 (ruleOn 6 (sign 2 none (some 4)) ∷ []))))
     (2 ∷ 6 ∷ 7 ∷ 8 ∷ 8 ∷ 0 ∷ 1 ∷ 8 ∷ 5 ∷ 2 ∷ 3 ∷ 0 ∷ 4 ∷ 8 ∷ 5 ∷ []) ≡ true

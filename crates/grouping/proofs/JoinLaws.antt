@@ -111,15 +111,21 @@ module _ (row : List ℕ) (e : Entries) (read : ListRead row 41 e) (few : getD r
 
 -- ---- the line
 
-module _ (h : RuleHead) (line : MaybeNumber) where
-  pub line-own : h .«has_line» ≡ true → LineKept h line (record { flag = 1; number = h .line })
-  line-own t = record { answer = rw t }
+module _ (h : RuleHead) where
+  pub own-line : h .«has_line» ≡ true → some (h .line) ≡ cond (h .«has_line») (some (h .line)) none
+  own-line t = rw t
 
-  pub line-none : h .«has_line» ≡ false → line ≡ n.Nothing → LineKept h line (record { flag = 0; number = 0 })
-  line-none t q = record { answer = rw (t, q) }
+module _ (a b : MaybeNumber) where
+  pub first-some : (s : ℕ) → a ≡ n.At s → some s ≡ orElse (maybeNumber a) (maybeNumber b)
+  first-some s q = rw q
 
-  pub line-new : (s : ℕ) → h .«has_line» ≡ false → line ≡ n.At s → LineKept h line (record { flag = 1; number = s })
-  line-new s t q = record { answer = rw (t, q) }
+module _ (l : MaybeNumber) where
+  pub words-some : (s : ℕ) → l ≡ n.At s → some s ≡ maybeNumber l
+  words-some s q = rw q
+
+pub line-kept : (h : RuleHead) (line own first : MaybeNumber) (w : LineWords) → maybeNumber own ≡ cond (h .«has_line») (some (h .line)) none
+    → maybeNumber first ≡ orElse (maybeNumber own) (maybeNumber line) → lineWords w ≡ maybeNumber first → LineKept h line w
+line-kept h line own first w eo ef ew = record { answer = ew ∙ ef ∙ ap (λ (o : Option ℕ). orElse o (maybeNumber line)) eo }
 
 -- ---- the rule put
 

@@ -6,14 +6,18 @@ use map::update;
 use placing::MaybeNumber;
 use placing::lists::member;
 ghost use mathlib.Core.Path.{_≡_};
+ghost use mathlib.Core.Bool.{cond};
+ghost use mathlib.Core.Option.{none, some};
 ghost use mathlib.Core.List.{[], _∷_, _++_};
 ghost use Prim.Native.Nat.{_≤_, _<_};
 ghost use lib.ListN.{length, getD};
+ghost use Rattle.rows.specs.Lists.{orElse};
 ghost use Rattle.store.specs.Layout.{SizedWords, countOf, rowOf};
 ghost use Rattle.map.specs.Tables.{listAt};
 ghost use Rattle.map.specs.Updates.{RulePut, withList};
 ghost use Rattle.place.specs.Readable.{ReadableWords};
-ghost use Rattle.grouping.specs.Group.{JoinedRead, LineKept, GroupPut};
+ghost use Rattle.placing.specs.Answers.{maybeNumber};
+ghost use Rattle.grouping.specs.Group.{JoinedRead, lineWords, LineKept, GroupPut};
 
 // The words of a rule's line.
 pub struct LineWords {
@@ -59,20 +63,39 @@ fn put_signal(words: &mut [u64], i: usize, signal: u64)
     update::put_list(words, i, 41, &signals[..e]);
 }
 
+fn own_line(h: RuleHead) -> MaybeNumber
+    ensures { λ r. ⌜ maybeNumber r ≡ cond (h .«has_line») (some (h .line)) none ⌝ }
+{
+    if h.has_line {
+        return MaybeNumber::At(h.line);
+    }
+    MaybeNumber::Nothing
+}
+
+fn first_of(a: MaybeNumber, b: MaybeNumber) -> MaybeNumber
+    ensures { λ r. ⌜ maybeNumber r ≡ orElse (maybeNumber a) (maybeNumber b) ⌝ }
+{
+    let MaybeNumber::At(s) = a else {
+        return b;
+    };
+    MaybeNumber::At(s)
+}
+
+fn line_words(l: MaybeNumber) -> LineWords
+    ensures { λ r. ⌜ lineWords r ≡ maybeNumber l ⌝ }
+{
+    let MaybeNumber::At(s) = l else {
+        return LineWords { flag: 0, number: 0 };
+    };
+    LineWords { flag: 1, number: s }
+}
+
 // The rule's own line where it has one, else the light's.
 fn kept_line(h: RuleHead, line: MaybeNumber) -> LineWords
     ensures { λ r. ⌜ LineKept h line r ⌝ }
 {
-    if h.has_line {
-        return LineWords {
-            flag: 1,
-            number: h.line,
-        };
-    }
-    let MaybeNumber::At(s) = line else {
-        return LineWords { flag: 0, number: 0 };
-    };
-    LineWords { flag: 1, number: s }
+    let own = own_line(h);
+    line_words(first_of(own, line))
 }
 
 // Rule i, a light, with one more signal, these lanes, and a line where it had none.

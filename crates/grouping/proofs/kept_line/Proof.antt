@@ -1,23 +1,21 @@
 -- `grouping::kept_line` meets its contract. Assumes nothing.
-use Rattle.grouping.proofs.JoinLaws.{line-own, line-none, line-new}
+use Rattle.grouping.proofs.JoinLaws.{line-kept}
 use borrow.Author.Needs.{needs}
 use Rattle.grouping.proofs.kept_line.Statement.{statement}
 use Rattle.grouping.proofs.kept_line.Tie as tie
 
+own-line-requires : tie.Need-own-line-requires
+own-line-requires c κs = search needs
+
+first-of-requires : tie.Need-first-of-requires
+first-of-requires c κs = search needs
+
+line-words-requires : tie.Need-line-words-requires
+line-words-requires c κs = search needs
+
 returns : tie.Need-returns
-returns c = line-own _ (c .before .args .line) (c .if1 .taken)
-
-enum-known-line : tie.Need-enum-known-line
-enum-known-line c = search needs
-
-enum-told : tie.Need-enum-told
-enum-told c = search needs
-
-returns-2 : tie.Need-returns-2
-returns-2 c = line-none _ _ (c .before .before .if1 .left) (c .enum-told .given .1)
-
-returns-3 : tie.Need-returns-3
-returns-3 c = line-new _ _ _ (c .before .before .before .if1 .left) (c .before .line .given .1)
+returns c = line-kept (c .before .before .before .args .h) (c .before .before .before .args .line) (c .before .before .own-line .result) (c .before .first-of .result) (c .line-words .result) (c .before .before .own-line .ensures) (c .before .first-of .ensures) (c .line-words .ensures)
 
 pub kept-line-spec : {M : Type 1} → statement M
-kept-line-spec = tie.close (tie.spec returns enum-known-line enum-told returns-2 returns-3)
+kept-line-spec =
+    tie.close (tie.spec own-line-requires first-of-requires line-words-requires returns)
