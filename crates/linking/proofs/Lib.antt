@@ -1,3 +1,4 @@
 pub mod SortLaws
 pub mod ListLaws
 pub mod InsertLaws
+pub mod FewLaws
