@@ -2,3 +2,4 @@ pub mod SortLaws
 pub mod ListLaws
 pub mod InsertLaws
 pub mod FewLaws
+pub mod KindLaws
