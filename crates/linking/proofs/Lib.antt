@@ -3,3 +3,4 @@ pub mod ListLaws
 pub mod InsertLaws
 pub mod FewLaws
 pub mod KindLaws
+pub mod LightLaws

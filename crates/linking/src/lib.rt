@@ -1,5 +1,6 @@
 // The checks and the plan of `set_regulatory_links`, which read only.
 pub mod kinds; // kinds.rt: a light's signals
+pub mod light; // light.rt: what a light can be linked to
 pub mod lists; // lists.rt: the lists of links
 pub mod sort; // sort.rt: a list in rising order
 
