@@ -1,3 +1,2 @@
 pub mod Crossings
 mod Cases
-pub mod RuleLaws

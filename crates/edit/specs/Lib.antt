@@ -2,6 +2,5 @@ pub mod Edit
 pub mod StopLine
 pub mod Light
 pub mod Links
-pub mod RuleLines
 pub mod Lent
 pub mod Request

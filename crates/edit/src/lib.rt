@@ -3,8 +3,6 @@ use changes::Tally;
 use placing::MaybeNumber;
 use refusal::Refusal;
 
-pub mod rules; // rules.rt: the lines that rules name
-
 // The rule that makes vehicles stop at a new line.
 pub enum StopRule {
     StopSign,

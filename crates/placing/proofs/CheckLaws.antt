@@ -101,3 +101,8 @@ unfolding checkPolyline
 shape-few cs e =
     let t = passed (ltb 64 (length (polylineOf cs))) 10 [] _ (second (refuseWhen (not (every onMap cs)) 9 []) _ (second (refuseWhen (not (eqb (length cs % 3) 0 && every isFinite cs)) 5 (1 ∷ [])) _ e)) in
     omega (arith, length-points cs, ltb-false 64 (length (polylineOf cs)) t)
+
+pub lanes-there : (ws lanes : List ℕ) → LanesChecked ws lanes Fine → 0 < length lanes
+unfolding checkLaneList noEntries
+lanes-there ws [] h = absurd (never 1 [] (h .answer []))
+lanes-there ws (n ∷ ns) h = omega arith

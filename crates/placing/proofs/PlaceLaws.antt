@@ -15,6 +15,7 @@ use Rattle.rows.specs.Lists.{listTo}
 use Rattle.geometry.specs.declared.Point3.{Point3}
 use Rattle.geometry.specs.Double.{_⊖_, f0, epsilon, isFinite, absolute, clamp}
 use Rattle.geometry.specs.Polyline.{Polyline, pointIn, polylineOf, polylineLength}
+use Rattle.polyline.proofs.Lines.{length-points}
 use Rattle.centerline.specs.declared.Line.{Line}
 use Rattle.centerline.specs.Line.{pointsOf}
 use Rattle.map.specs.Record.{Map}
@@ -27,7 +28,7 @@ use Rattle.place.specs.declared.Placement.the-variants.{AtLaneEnd, AtStation, G
 use Rattle.place.specs.Place.{Placed, laneCenterline, crossSection, checkPolyline, clampWarning, placeAt, placeAs, placeStopLine}
 use Rattle.place.specs.Steps.{sectionOn}
 use Rattle.place.specs.Values.{maybeLine, Roomy, LineRead, sectionAnswer}
-use Rattle.place.proofs.LineLaws.{line-part}
+use Rattle.place.proofs.LineLaws.{line-part, count-few}
 use Rattle.place.proofs.SectionLaws.{cross-section-is}
 use Rattle.placing.specs.declared.Checked.{Checked}
 use Rattle.placing.specs.declared.Checked.the-variants as c
@@ -39,6 +40,12 @@ use Rattle.placing.specs.Answers.{checked, placedAnswer, RefusedWith, pl
 pub across-is : (a b : Point3) (rest : List Float) → pointsOf (record { coords = a .x ∷ a .y ∷ a .z ∷ b .x ∷ b .y ∷ b .z ∷ rest; count = 2 }) ≡ a ∷ b ∷ []
 unfolding pointsOf listTo pointIn
 across-is a b rest = refl
+
+pub across-room : (a b : Point3) (l : Line) → pointsOf l ≡ a ∷ b ∷ [] → length (l .coords) ≡ 192 → Roomy l
+across-room a b l e w = record { few = count-few l (a ∷ b ∷ []) e (omega arith); long = w }
+
+pub given-room : (cs : List Float) (l : Line) → length cs / 3 ≤ 64 → pointsOf l ≡ polylineOf cs → length (l .coords) ≡ 192 → Roomy l
+given-room cs l h e w = record { few = count-few l (polylineOf cs) e (omega (arith, length-points cs)); long = w }
 
 -- ---- at a station
 

@@ -17,6 +17,7 @@ use Rattle.map.specs.Tables.{mapOf}
 use Rattle.changes.specs.ChangeSet.{Warning, warning}
 use Rattle.place.specs.Place.{Placed, checkLaneList, checkPolyline, clampWarning}
 use Rattle.place.specs.Steps.{sectionOn}
+use Rattle.place.specs.Values.{Roomy}
 use Rattle.placing.specs.declared.Checked.{Checked}
 use Rattle.placing.specs.declared.Checked.the-variants as c
 use Rattle.placing.specs.declared.MaybeNumber.{MaybeNumber}
@@ -47,6 +48,7 @@ placedAnswer reference a =
 
 pub record RefusedWith (r : Refusal) (a : PlacedLine) : Type 0 where
   pub answer : (reference : ℕ) → placedAnswer reference a ≡ refusedAs r
+  pub room : Roomy (a .line)
 
 -- ---- parts of the definitions that one function answers
 

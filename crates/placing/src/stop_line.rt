@@ -26,9 +26,10 @@ ghost use Rattle.centerline.specs.Line.{pointsOf};
 ghost use Rattle.map.specs.Tables.{mapOf};
 ghost use Rattle.place.specs.Place.{laneCenterline, placeAs, placeStopLine};
 ghost use Rattle.place.specs.Readable.{Readable};
+ghost use Rattle.place.specs.Values.{Roomy};
 ghost use Rattle.placing.specs.Answers.{RefusedWith, placedAnswer, placeOn, placeGiven};
 
-fn refused_line(r: Refusal) -> PlacedLine
+pub fn refused_line(r: Refusal) -> PlacedLine
     ensures { λ a. ⌜ RefusedWith r a ⌝ }
 {
     PlacedLine {
@@ -39,7 +40,7 @@ fn refused_line(r: Refusal) -> PlacedLine
 }
 
 // The line from one end of a cross-section to the other.
-fn across(s: CrossSection) -> Line
+pub fn across(s: CrossSection) -> Line
     ensures { λ r. ⌜ pointsOf r ≡ s .left ∷ s .right ∷ [] ⌝ }
 {
     let a = s.left;
@@ -71,7 +72,7 @@ fn place_at(
     station: f64,
 ) -> PlacedLine
     requires { ⌜ Readable (now words) (now coords) ⌝ }
-    ensures { λ r. ⌜ placedAnswer (getD (now (lanes .entry)) 0 0) r ≡ placeOn (mapOf (now (words .entry)) (now (coords .entry))) (polylineOf (now (center .entry))) (now (lanes .entry)) (getD (now (lanes .entry)) 0 0) len station ⌝ }
+    ensures { λ r. ⌜ (placedAnswer (getD (now (lanes .entry)) 0 0) r ≡ placeOn (mapOf (now (words .entry)) (now (coords .entry))) (polylineOf (now (center .entry))) (now (lanes .entry)) (getD (now (lanes .entry)) 0 0) len station) × Roomy (r .line) ⌝ }
 {
     if !is_finite(station) {
         return refused_line(Refusal::BadMeasure(3));
@@ -88,7 +89,7 @@ fn place_at(
 }
 
 fn given_line(given: &[f64], reference: u64) -> PlacedLine
-    ensures { λ r. ⌜ placedAnswer reference r ≡ placeGiven (now (given .entry)) ⌝ }
+    ensures { λ r. ⌜ (placedAnswer reference r ≡ placeGiven (now (given .entry))) × Roomy (r .line) ⌝ }
 {
     match check_polyline(given) {
         Checked::Refused(r) => refused_line(r),
@@ -110,7 +111,7 @@ pub fn place_as(
     given: &[f64],
 ) -> PlacedLine
     requires { ⌜ Readable (now words) (now coords) × (0 < length (now lanes)) × (laneCenterline (mapOf (now words) (now coords)) (getD (now lanes) 0 0) ≡ some (polylineOf (now center))) ⌝ }
-    ensures { λ r. ⌜ placedAnswer (getD (now (lanes .entry)) 0 0) r ≡ placeAs how (now (given .entry)) (mapOf (now (words .entry)) (now (coords .entry))) (now (lanes .entry)) (getD (now (lanes .entry)) 0 0) (polylineLength (polylineOf (now (center .entry)))) ⌝ }
+    ensures { λ r. ⌜ (placedAnswer (getD (now (lanes .entry)) 0 0) r ≡ placeAs how (now (given .entry)) (mapOf (now (words .entry)) (now (coords .entry))) (now (lanes .entry)) (getD (now (lanes .entry)) 0 0) (polylineLength (polylineOf (now (center .entry))))) × Roomy (r .line) ⌝ }
 {
     let len = polyline::length::length(center);
     match how {
@@ -137,7 +138,7 @@ pub fn place_stop_line(
     given: &[f64],
 ) -> PlacedLine
     requires { ⌜ Readable (now words) (now coords) × (0 < length (now lanes)) ⌝ }
-    ensures { λ r. ⌜ placedAnswer (getD (now (lanes .entry)) 0 0) r ≡ placeStopLine (mapOf (now (words .entry)) (now (coords .entry))) (now (lanes .entry)) how (now (given .entry)) ⌝ }
+    ensures { λ r. ⌜ (placedAnswer (getD (now (lanes .entry)) 0 0) r ≡ placeStopLine (mapOf (now (words .entry)) (now (coords .entry))) (now (lanes .entry)) how (now (given .entry))) × Roomy (r .line) ⌝ }
 {
     let m = lane_centerline(words, coords, lanes[0]);
     if !m.there {

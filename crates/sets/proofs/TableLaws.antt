@@ -202,6 +202,18 @@ module _ (u v : List ℕ) (room : ℕ) (r : Counts) (g : ChangeSet) (h : Made u 
       let z = length-d in
       and-i _ _ (and-i _ _ (le-leb (length (g .created)) maxEntries (omega arith)) (le-leb (length (g .modified)) maxEntries (omega arith))) (le-leb (length (g .deleted)) maxEntries (omega arith))
 
+  pub over-created : 512 < r .created → false ≡ foldFits g
+  over-created k = sym (unfit-c k)
+
+  pub over-modified : 512 < r .modified → false ≡ foldFits g
+  over-modified k = sym (unfit-m k)
+
+  pub over-deleted : 512 < r .deleted → false ≡ foldFits g
+  over-deleted k = sym (unfit-d k)
+
+  pub not-over : r .created ≤ 512 → r .modified ≤ 512 → r .deleted ≤ 512 → true ≡ foldFits g
+  not-over a b d = sym (fit a b d)
+
 no-warnings : (x y : ChangeSet) → foldStep x y ≡ record { created = foldStep x y .created; modified = foldStep x y .modified; deleted = foldStep x y .deleted; warnings = [] }
 unfolding foldStep normalize
 no-warnings x y = refl
@@ -327,6 +339,18 @@ pub fits-ok : (t : List ℕ) → listsOkIn t ≡ true → Fits t
 unfolding changeSetOf listsOk
 fits-ok t h = fits-each t (ok-size-of t h) (and-l _ (listsApart (changeSetOf t)) (ok-lists t h))
 
+pub fits-joins : (f c u : List ℕ) (room : ℕ) → Fits f → Fits c → 1024 ≤ room → room * 6 ≤ length u → Joins u room f c
+fits-joins f c u room x y w s =
+    let f0 = x .room .few 0 (omega arith) in
+    let f1 = x .room .few 1 (omega arith) in
+    let f2 = x .room .few 2 (omega arith) in
+    let c0 = y .room .few 0 (omega arith) in
+    let c1 = y .room .few 1 (omega arith) in
+    let c2 = y .room .few 2 (omega arith) in
+    record { first = x; second = y; created = omega arith; modified = omega arith; deleted = omega arith; size = s }
+
+pub ruleset fitting = (fits-joins, over-created, over-modified, over-deleted, not-over)
+
 module _ (f c : List ℕ) (p : Bool) (a : p ≡ listsOkIn f) where
   pub bad-fold : not p ≡ true → FoldCalled f c (Refused BadSet) f
   unfolding foldTables
@@ -338,18 +362,6 @@ module _ (f c : List ℕ) (p : Bool) (a : p ≡ listsOkIn f) where
     bad-set n = record { answer = rw (← b, no-of q n, and-no (listsOkIn f)); unchanged = λ _. refl }
 
     module _ (n : not q ≡ false) where
-      pub fold-asks : (u : List ℕ) (room : ℕ) → 1024 ≤ room → room * 6 ≤ length u → Joins u room f c
-      fold-asks u room w s =
-          let x = fits-ok f (sym a ∙ yes-of p m) in
-          let y = fits-ok c (sym b ∙ yes-of q n) in
-          let f0 = x .room .few 0 (omega arith) in
-          let f1 = x .room .few 1 (omega arith) in
-          let f2 = x .room .few 2 (omega arith) in
-          let c0 = y .room .few 0 (omega arith) in
-          let c1 = y .room .few 1 (omega arith) in
-          let c2 = y .room .few 2 (omega arith) in
-          record { first = x; second = y; created = omega arith; modified = omega arith; deleted = omega arith; size = s }
-
       pub fold-called : (r : Folded) (f′ : List ℕ) → FoldsTo f c r f′ → FoldCalled f c r f′
       unfolding foldTables foldCall foldFitted
       fold-called r f′ t = record {

@@ -8,6 +8,7 @@ ghost use Rattle.changes.specs.Layout.{setWords, countIn, listIn};
 ghost use Rattle.changes.specs.Walk.{refsTo, Put};
 ghost use mathlib.Core.Bool.{_&&_};
 ghost use Rattle.changes.specs.ChangeSet.{foldStep};
+ghost use Rattle.changes.specs.Running.{foldFits};
 ghost use Rattle.changes.specs.ChangeFile.{maxEntries, entries, apart, listsApart};
 ghost use Rattle.changes.specs.Layout.{changeSetOf, listsOkIn};
 ghost use Rattle.sets.specs.Tables.{crowdOf, putList, putLists, createdIn, modifiedIn, deletedIn, Fits, Joins, United, Rises, Settled, Made, Stores};
@@ -217,6 +218,40 @@ pub fn fold_few(f: &mut [u64], c: &[u64]) -> Folded
     fold_in(f, c, &mut u, &mut v, 64)
 }
 
+// The fold of f and c, whose lists are those of sets, in f.
+pub fn fold_fitted(f: &mut [u64], c: &[u64]) -> Folded
+    requires { ⌜ Fits (now f) × Fits (now c) ⌝ }
+    ensures { λ r. ⌜ FoldsTo (now (f .entry)) (now (c .entry)) r (now (f .exit)) ⌝ }
+{
+    // few entries ask for few words to work in
+    if crowd(f, c) <= 64 {
+        return fold_few(f, c);
+    }
+    let mut u = [0; 6144];
+    let mut v = [0; 6144];
+    fold_in(f, c, &mut u, &mut v, 1024)
+}
+
+// Whether the lists of that fold would be within their room.
+pub fn fold_fits(f: &[u64], c: &[u64]) -> bool
+    requires { ⌜ Fits (now f) × Fits (now c) ⌝ }
+    ensures { λ r. ⌜ r ≡ foldFits (foldStep (changeSetOf (now (f .entry))) (changeSetOf (now (c .entry)))) ⌝ }
+{
+    let mut u = [0; 6144];
+    let mut v = [0; 6144];
+    let n = gather(&mut u, &mut v, 1024, f, c);
+    if layout::ENTRIES < n.created {
+        return false;
+    }
+    if layout::ENTRIES < n.modified {
+        return false;
+    }
+    if layout::ENTRIES < n.deleted {
+        return false;
+    }
+    true
+}
+
 // The fold call: c taken into f. 13 for lists that are not those of a set, 10 where a list would be too long; then f is as it was.
 pub fn fold(f: &mut [u64], c: &[u64]) -> Folded
     ensures { λ r. ⌜ FoldCalled (now (f .entry)) (now (c .entry)) r (now (f .exit)) ⌝ }
@@ -227,11 +262,5 @@ pub fn fold(f: &mut [u64], c: &[u64]) -> Folded
     if !lists_ok(c) {
         return Folded::Refused(Refusal::BadSet);
     }
-    // few entries ask for few words to work in
-    if crowd(f, c) <= 64 {
-        return fold_few(f, c);
-    }
-    let mut u = [0; 6144];
-    let mut v = [0; 6144];
-    fold_in(f, c, &mut u, &mut v, 1024)
+    fold_fitted(f, c)
 }

@@ -23,32 +23,14 @@ same-length-2 c = search needs
 returns-2 : tie.Need-returns-2
 returns-2 c = L.bad-set _ _ _ (c .before .before .before .lists-ok .ensures) (c .before .before .if1 .left) _ (c .before .lists-ok2 .ensures) (c .if2 .taken)
 
-crowd-requires : tie.Need-crowd-requires
-crowd-requires c κs = (L.fits-told _ _ (c .before .before .before .before .lists-ok .ensures) (c .before .before .before .if1 .left), L.fits-told _ _ (c .before .before .lists-ok2 .ensures) (c .before .if2 .left))
-
-fold-few-requires : tie.Need-fold-few-requires
-fold-few-requires c κs = (L.fits-told _ _ (c .before .before .before .before .before .before .before .lists-ok .ensures) (c .before .before .before .before .before .before .if1 .left), L.fits-told _ _ (c .before .before .before .before .before .lists-ok2 .ensures) (c .before .before .before .before .if2 .left), L.few-told _ _ (c .before .before .crowd .ensures) (c .before .if3 .taken))
+fold-fitted-requires : tie.Need-fold-fitted-requires
+fold-fitted-requires c κs = (L.fits-told _ _ (c .before .before .before .before .lists-ok .ensures) (c .before .before .before .if1 .left), L.fits-told _ _ (c .before .before .lists-ok2 .ensures) (c .before .if2 .left))
 
 same-length-3 : tie.Need-same-length-3
 same-length-3 c = search needs
 
 returns-3 : tie.Need-returns-3
-returns-3 c = L.fold-called _ _ _ (c .before .before .before .before .before .before .before .before .before .before .lists-ok .ensures) (c .before .before .before .before .before .before .before .before .before .if1 .left) _ (c .before .before .before .before .before .before .before .before .lists-ok2 .ensures) (c .before .before .before .before .before .before .before .if2 .left) _ _ (c .before .before .fold-few .ensures)
-
-slice-aggregate-fold-in : tie.Need-slice-aggregate-fold-in
-slice-aggregate-fold-in c = search needs
-
-slice-aggregate-fold-in-2 : tie.Need-slice-aggregate-fold-in-2
-slice-aggregate-fold-in-2 c = search needs
-
-fold-in-requires : tie.Need-fold-in-requires
-fold-in-requires c κs = (L.fold-asks _ _ _ (c .before .before .before .before .before .before .before .before .before .lists-ok .ensures) (c .before .before .before .before .before .before .before .before .if1 .left) _ (c .before .before .before .before .before .before .before .lists-ok2 .ensures) (c .before .before .before .before .before .before .if2 .left) _ _ (omega arith) (omega arith), omega arith)
-
-same-length-4 : tie.Need-same-length-4
-same-length-4 c = search needs
-
-returns-4 : tie.Need-returns-4
-returns-4 c = L.fold-called _ _ _ (c .before .before .before .before .before .before .before .before .before .before .before .before .before .before .lists-ok .ensures) (c .before .before .before .before .before .before .before .before .before .before .before .before .before .if1 .left) _ (c .before .before .before .before .before .before .before .before .before .before .before .before .lists-ok2 .ensures) (c .before .before .before .before .before .before .before .before .before .before .before .if2 .left) _ _ (c .before .before .before .before .fold-in .ensures)
+returns-3 c = L.fold-called _ _ _ (c .before .before .before .before .before .before .before .lists-ok .ensures) (c .before .before .before .before .before .before .if1 .left) _ (c .before .before .before .before .before .lists-ok2 .ensures) (c .before .before .before .before .if2 .left) _ _ (c .before .before .fold-fitted .ensures)
 
 pub fold-spec : {M : Type 1} → statement M
 fold-spec =
@@ -60,12 +42,6 @@ fold-spec =
     lists-ok-requires-2
     same-length-2
     returns-2
-    crowd-requires
-    fold-few-requires
+    fold-fitted-requires
     same-length-3
-    returns-3
-    slice-aggregate-fold-in
-    slice-aggregate-fold-in-2
-    fold-in-requires
-    same-length-4
-    returns-4)
+    returns-3)

@@ -32,25 +32,25 @@ refused-line-requires : tie.Need-refused-line-requires
 refused-line-requires c κs = search needs
 
 returns : tie.Need-returns
-returns c = as-infinite _ _ _ _ (c .before .before .before .before .before .before .before .before .before .before .before .before .pre .2) _ _ _ (c .before .before .before .before .before .before .length .ensures) _ (c .before .before .before .before .how2 .given .1) _ (c .before .before .is-finite .ensures) _ (c .before .if1 .taken) (c .refused-line .ensures)
+returns c = (as-infinite _ _ _ _ (c .before .before .before .before .before .before .before .before .before .before .before .before .pre .2) _ _ _ (c .before .before .before .before .before .before .length .ensures) _ (c .before .before .before .before .how2 .given .1) _ (c .before .before .is-finite .ensures) _ (c .before .if1 .taken) (c .refused-line .ensures), c .refused-line .ensures .room)
 
 refused-line-requires-2 : tie.Need-refused-line-requires-2
 refused-line-requires-2 c κs = search needs
 
 returns-2 : tie.Need-returns-2
-returns-2 c = as-negative _ _ _ _ (c .before .before .before .before .before .before .before .before .before .before .before .before .before .pre .2) _ _ _ (c .before .before .before .before .before .before .before .length .ensures) _ (c .before .before .before .before .before .how2 .given .1) _ (c .before .before .before .is-finite .ensures) _ (c .before .before .if1 .left) (c .before .if2 .taken) (c .refused-line2 .ensures)
+returns-2 c = (as-negative _ _ _ _ (c .before .before .before .before .before .before .before .before .before .before .before .before .before .pre .2) _ _ _ (c .before .before .before .before .before .before .before .length .ensures) _ (c .before .before .before .before .before .how2 .given .1) _ (c .before .before .before .is-finite .ensures) _ (c .before .before .if1 .left) (c .before .if2 .taken) (c .refused-line2 .ensures), c .refused-line2 .ensures .room)
 
 place-at-requires-2 : tie.Need-place-at-requires-2
 place-at-requires-2 c κs = search needs
 
 returns-3 : tie.Need-returns-3
-returns-3 c = as-given _ _ _ _ (c .before .before .before .before .before .before .before .before .before .before .pre .2) _ _ _ (c .before .before .before .before .length .ensures) _ (c .before .before .enum-told .given .1) (c .given-line .ensures)
+returns-3 c = (as-given _ _ _ _ (c .before .before .before .before .before .before .before .before .before .before .pre .2) _ _ _ (c .before .before .before .before .length .ensures) _ (c .before .before .enum-told .given .1) (c .given-line .ensures .0), c .given-line .ensures .1)
 
 returns-4 : tie.Need-returns-4
-returns-4 c = as-station _ _ _ _ (c .before .before .before .before .before .before .before .before .before .before .pre .2) _ _ _ (c .before .before .before .before .length .ensures) _ _ (c .before .before .how .given .1) (c .place-at .ensures)
+returns-4 c = (as-station _ _ _ _ (c .before .before .before .before .before .before .before .before .before .before .pre .2) _ _ _ (c .before .before .before .before .length .ensures) _ _ (c .before .before .how .given .1) (c .place-at .ensures .0), c .place-at .ensures .1)
 
 returns-5 : tie.Need-returns-5
-returns-5 c = as-end _ _ _ _ (c .before .before .before .before .before .before .before .before .before .before .before .before .before .pre .2) _ _ _ (c .before .before .before .before .before .before .before .length .ensures) _ (c .before .before .before .before .before .how2 .given .1) _ (c .before .before .before .is-finite .ensures) _ (c .before .before .if1 .left) (c .before .if2 .left) (c .place-at2 .ensures)
+returns-5 c = (as-end _ _ _ _ (c .before .before .before .before .before .before .before .before .before .before .before .before .before .pre .2) _ _ _ (c .before .before .before .before .before .before .before .length .ensures) _ (c .before .before .before .before .before .how2 .given .1) _ (c .before .before .before .is-finite .ensures) _ (c .before .before .if1 .left) (c .before .if2 .left) (c .place-at2 .ensures .0), c .place-at2 .ensures .1)
 
 pub place-as-spec : {M : Type 1} → statement M
 place-as-spec =

@@ -1,8 +1,13 @@
 -- `placing::stop_line::place_at` meets its contract. Assumes nothing.
-use Rattle.placing.proofs.PlaceLaws.{station-bad, section-refused, section-placed}
+use mathlib.Core.Path.{_≡_}
+use lib.ListN.{length}
+use Rattle.placing.proofs.PlaceLaws.{station-bad, section-refused, section-placed, across-room}
 use borrow.Author.Needs.{needs}
 use Rattle.placing.proofs.stop_line.place_at.Statement.{statement}
 use Rattle.placing.proofs.stop_line.place_at.Tie as tie
+
+long-across : (c : tie.After-across) → length (c .across .result .coords) ≡ 192
+long-across c = search needs
 
 is-finite-requires : tie.Need-is-finite-requires
 is-finite-requires c κs = search needs
@@ -11,7 +16,7 @@ refused-line-requires : tie.Need-refused-line-requires
 refused-line-requires c κs = search needs
 
 returns : tie.Need-returns
-returns c = station-bad _ _ _ _ _ _ _ (c .before .before .is-finite .ensures) _ (c .before .if1 .taken) (c .refused-line .ensures)
+returns c = (station-bad _ _ _ _ _ _ _ (c .before .before .is-finite .ensures) _ (c .before .if1 .taken) (c .refused-line .ensures), c .refused-line .ensures .room)
 
 clamp-requires : tie.Need-clamp-requires
 clamp-requires c κs = search needs
@@ -35,10 +40,10 @@ moved-requires : tie.Need-moved-requires
 moved-requires c κs = search needs
 
 returns-2 : tie.Need-returns-2
-returns-2 c = section-refused _ _ _ _ _ _ _ (c .before .before .before .before .before .before .before .is-finite .ensures) (c .before .before .before .before .before .before .if1 .left) _ (c .before .before .before .before .before .clamp .ensures) _ (c .before .before .before .before .cross-section .ensures) _ _ (c .before .before .r .given .1) (c .refused-line2 .ensures)
+returns-2 c = (section-refused _ _ _ _ _ _ _ (c .before .before .before .before .before .before .before .is-finite .ensures) (c .before .before .before .before .before .before .if1 .left) _ (c .before .before .before .before .before .clamp .ensures) _ (c .before .before .before .before .cross-section .ensures) _ _ (c .before .before .r .given .1) (c .refused-line2 .ensures), c .refused-line2 .ensures .room)
 
 returns-3 : tie.Need-returns-3
-returns-3 c = section-placed _ _ _ _ _ _ _ (c .before .before .before .before .before .before .before .before .is-finite .ensures) (c .before .before .before .before .before .before .before .if1 .left) _ (c .before .before .before .before .before .before .clamp .ensures) _ (c .before .before .before .before .before .cross-section .ensures) _ _ _ (c .before .before .before .s .given .1) (c .before .across .ensures) (c .moved .ensures)
+returns-3 c = (section-placed _ _ _ _ _ _ _ (c .before .before .before .before .before .before .before .before .is-finite .ensures) (c .before .before .before .before .before .before .before .if1 .left) _ (c .before .before .before .before .before .before .clamp .ensures) _ (c .before .before .before .before .before .cross-section .ensures) _ _ _ (c .before .before .before .s .given .1) (c .before .across .ensures) (c .moved .ensures), across-room _ _ _ (c .before .across .ensures) (long-across (c .before)))
 
 pub place-at-spec : {M : Type 1} → statement M
 place-at-spec =

@@ -16,7 +16,7 @@ refused-line-requires : tie.Need-refused-line-requires
 refused-line-requires c κs = search needs
 
 returns : tie.Need-returns
-returns c = no-center _ (c .before .before .before .before .before .before .before .before .before .args .lanes .now) _ _ (c .before .before .before .lane-centerline .result) (c .before .before .before .lane-centerline .ensures) _ (c .before .if1 .taken) (c .refused-line .ensures)
+returns c = (no-center _ (c .before .before .before .before .before .before .before .before .before .args .lanes .now) _ _ (c .before .before .before .lane-centerline .result) (c .before .before .before .lane-centerline .ensures) _ (c .before .if1 .taken) (c .refused-line .ensures), c .refused-line .ensures .room)
 
 mul-e : tie.Need-mul-e
 mul-e c = omega (arith, c .before .before .before .before .before .lane-centerline .ensures .room .few)
@@ -31,7 +31,7 @@ place-as-requires : tie.Need-place-as-requires
 place-as-requires c κs = (c .before .before .before .before .before .before .before .before .before .before .before .before .pre .0, c .before .before .before .before .before .before .before .before .before .before .before .before .pre .1, center-there _ (c .before .before .before .before .before .before .before .before .before .before .before .before .args .lanes .now) (c .before .before .before .before .before .before .before .before .before .before .before .before .args .how) (c .before .before .before .before .before .before .before .before .before .before .before .before .args .given .now) (c .before .before .before .before .before .before .lane-centerline .result) (c .before .before .before .before .before .before .lane-centerline .ensures) (c .before .before .before .before .if1 .left))
 
 returns-2 : tie.Need-returns-2
-returns-2 c = placed-is _ (c .before .before .before .before .before .before .before .before .before .before .before .before .before .args .lanes .now) _ _ (c .before .before .before .before .before .before .before .lane-centerline .result) (c .before .before .before .before .before .before .before .lane-centerline .ensures) (c .before .before .before .before .before .if1 .left) _ (c .place-as .ensures)
+returns-2 c = (placed-is _ (c .before .before .before .before .before .before .before .before .before .before .before .before .before .args .lanes .now) _ _ (c .before .before .before .before .before .before .before .lane-centerline .result) (c .before .before .before .before .before .before .before .lane-centerline .ensures) (c .before .before .before .before .before .if1 .left) _ (c .place-as .ensures .0), c .place-as .ensures .1)
 
 pub place-stop-line-spec : {M : Type 1} → statement M
 place-stop-line-spec =

@@ -1,8 +1,8 @@
--- `edit::rules::stops_at` meets its contract. Assumes nothing.
-use Rattle.edit.proofs.RuleLaws.{with-line, without-line, head-marking, head-light, head-sign, head-none}
+-- `lighting::rules::stops_at` meets its contract. Assumes nothing.
+use Rattle.lighting.proofs.RuleLaws.{with-line, without-line, head-marking, head-light, head-sign, head-none}
 use borrow.Author.Needs.{needs}
-use Rattle.edit.proofs.rules.stops_at.Statement.{statement}
-use Rattle.edit.proofs.rules.stops_at.Tie as tie
+use Rattle.lighting.proofs.rules.stops_at.Statement.{statement}
+use Rattle.lighting.proofs.rules.stops_at.Tie as tie
 
 returns : tie.Need-returns
 returns c = head-marking (c .before .before .args .h) (c .if1 .taken)

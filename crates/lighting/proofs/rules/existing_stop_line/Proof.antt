@@ -1,12 +1,12 @@
--- `edit::rules::existing_stop_line` meets its contract. Assumes nothing.
+-- `lighting::rules::existing_stop_line` meets its contract. Assumes nothing.
 use Prim.Native.Nat.{_-_}
 use mathlib.Core.Path.{_≡_}
 use native.Mathlib.Omega.{arith}
 use Rattle.store.specs.Layout.{countOf}
-use Rattle.edit.proofs.RuleLaws.{Lineless, lineless-start, lineless-end, lineless-found, lineless-next}
+use Rattle.lighting.proofs.RuleLaws.{Lineless, lineless-start, lineless-end, lineless-found, lineless-next}
 use borrow.Author.Needs.{needs}
-use Rattle.edit.proofs.rules.existing_stop_line.Statement.{statement}
-use Rattle.edit.proofs.rules.existing_stop_line.Tie as tie
+use Rattle.lighting.proofs.rules.existing_stop_line.Statement.{statement}
+use Rattle.lighting.proofs.rules.existing_stop_line.Tie as tie
 
 abbrev Inv-loop : tie.InvT-loop
 Inv-loop words lane n i₀ i = (n ≡ countOf words 5) × Lineless words lane n i

@@ -20,8 +20,8 @@ use Rattle.place.specs.Readable.{ReadableWords}
 use Rattle.placing.specs.declared.MaybeNumber.{MaybeNumber}
 use Rattle.placing.specs.declared.MaybeNumber.the-variants.{At, Nothing}
 use Rattle.placing.specs.Answers.{maybeNumber}
 use Rattle.edit.specs.Light.{stopsAt, existingStopLine}
-use Rattle.edit.specs.RuleLines.{headLine, lineOf, LineOn, LineFound}
+use Rattle.lighting.specs.RuleLines.{headLine, lineOf, LineOn, LineFound}
 
 -- ---- by kind
 

@@ -8,7 +8,7 @@ ghost use Prim.Native.Nat.{_<_};
 ghost use Rattle.store.specs.Layout.{countOf};
 ghost use Rattle.place.specs.Readable.{ReadableWords};
 ghost use Rattle.placing.specs.Answers.{maybeNumber};
-ghost use Rattle.edit.specs.RuleLines.{headLine, LineOn, LineFound};
+ghost use Rattle.lighting.specs.RuleLines.{headLine, LineOn, LineFound};
 
 // The line of a light, a sign or a marking.
 fn stops_at(h: RuleHead) -> MaybeNumber

@@ -1,8 +1,8 @@
--- `edit::rules::line_on` meets its contract. Assumes nothing.
-use Rattle.edit.proofs.RuleLaws.{rule-there, rule-lanes, line-listed, line-unlisted}
+-- `lighting::rules::line_on` meets its contract. Assumes nothing.
+use Rattle.lighting.proofs.RuleLaws.{rule-there, rule-lanes, line-listed, line-unlisted}
 use borrow.Author.Needs.{needs}
-use Rattle.edit.proofs.rules.line_on.Statement.{statement}
-use Rattle.edit.proofs.rules.line_on.Tie as tie
+use Rattle.lighting.proofs.rules.line_on.Statement.{statement}
+use Rattle.lighting.proofs.rules.line_on.Tie as tie
 
 rule-list-requires : tie.Need-rule-list-requires
 rule-list-requires c κs = rule-lanes _ (c .before .pre .0) _ (c .before .args .lane) (c .before .pre .1)

@@ -1,0 +1,7 @@
+pub mod LentLaws
+pub mod SettleLaws
+pub mod CopyLaws
+pub mod CeilingLaws
+pub mod StoredLaws
+pub mod FreshLaws
+pub mod CallLaws

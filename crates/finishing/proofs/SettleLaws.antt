@@ -1,0 +1,148 @@
+-- The draft's set normalized and folded: what each answer of `settle` leaves. Assumes nothing.
+use Prim.Native.Nat.{ℕ, zero, suc, _+_, _*_, _≤_, _<_}
+use mathlib.Core.Path.{_≡_, refl, sym, ap, _∙_}
+use mathlib.Core.Bool.{Bool, true, false, not}
+use mathlib.Core.List.{List, [], _∷_}
+use native.Mathlib.Omega.{arith}
+use lib.ListN.{length}
+use borrow.Author.Tests.{not-true, not-false}
+use Rattle.refusal.specs.Answer.{Answer, refused, done, refusedAs, refuseWhen, _>>_}
+use Rattle.refusal.specs.declared.Refusal.{Refusal}
+use Rattle.refusal.specs.declared.Refusal.the-variants as e
+use Rattle.map.specs.Entity.{EntityRef}
+use Rattle.changes.specs.ChangeFile.{risingRefs}
+use Rattle.changes.specs.ChangeSet.{Warning, ChangeSet, sortRefs, without, normalize, foldStep}
+use Rattle.changes.specs.Layout.{setWords, countIn, listIn, warningsAt, changeSetOf, listsOkIn}
+use Rattle.changes.specs.Running.{foldFits}
+use Rattle.changes.proofs.Refs.{sort-rising}
+use Rattle.sets.specs.declared.Folded.{Folded}
+use Rattle.sets.specs.declared.Folded.the-variants as s
+use Rattle.sets.specs.Tables.{Roomy, Fits}
+use Rattle.sets.specs.Fold.{foldedAs, isRefused, foldFitted, FoldsTo}
+use Rattle.sets.proofs.ListLaws.{length-without, without-rises}
+use Rattle.sets.proofs.SettleLaws.{length-sort, length-in}
+use Rattle.sets.proofs.TableLaws.{fits-ok}
+use Rattle.normal.specs.Normal.{Normalized}
+use Rattle.placing.specs.declared.Checked.{Checked}
+use Rattle.placing.specs.declared.Checked.the-variants as k
+use Rattle.placing.specs.Answers.{checked}
+use Rattle.finishing.specs.Finish.{settled, RoomyAll, FoldSettled}
+
+-- ---- a normalized list rises and is no longer than it was
+
+normal-created : (c : ChangeSet) → (length (normalize c .created) ≤ length (c .created)) × (risingRefs (normalize c .created) ≡ true)
+unfolding normalize
+normal-created c =
+    (let a = length-without (sortRefs (c .created)) (c .deleted) in let b = length-sort (c .created) in omega arith, without-rises (sortRefs (c .created)) (c .deleted) (sort-rising (c .created)))
+
+normal-modified : (c : ChangeSet) → (length (normalize c .modified) ≤ length (c .modified)) × (risingRefs (normalize c .modified) ≡ true)
+unfolding normalize
+normal-modified c = (
+  let a = length-without (without (sortRefs (c .modified)) (c .created)) (c .deleted) in
+      let b = length-without (sortRefs (c .modified)) (c .created) in
+      let d = length-sort (c .modified) in
+      omega arith,
+  without-rises (without (sortRefs (c .modified)) (c .created)) (c .deleted) (without-rises (sortRefs (c .modified)) (c .created) (sort-rising (c .modified))),
+)
+
+normal-deleted : (c : ChangeSet) → (length (normalize c .deleted) ≤ length (c .deleted)) × (risingRefs (normalize c .deleted) ≡ true)
+unfolding normalize
+normal-deleted c =
+    (let a = length-without (sortRefs (c .deleted)) (c .created) in let b = length-sort (c .deleted) in omega arith, without-rises (sortRefs (c .deleted)) (c .created) (sort-rising (c .deleted)))
+
+normal-warnings : (c : ChangeSet) → normalize c .warnings ≡ c .warnings
+unfolding normalize
+normal-warnings c = refl
+
+pub length-warnings : (w : List ℕ) (p n : ℕ) → length (warningsAt w p n) ≡ n
+unfolding warningsAt
+length-warnings w p zero = refl
+length-warnings w p (suc n) = ap suc (length-warnings w (p + 3) n)
+
+-- ---- the normalized table
+
+module _ (d d′ : List ℕ) (ok : RoomyAll d) (n : Normalized d d′) where
+  one : (l : ℕ) (xs ys : List EntityRef) → listIn d′ l ≡ xs → (length xs ≤ length ys) × (risingRefs xs ≡ true) → ys ≡ listIn d l → countIn d l ≤ 512 → (countIn d′ l ≤ 512) × (risingRefs (listIn d′ l) ≡ true)
+  one l xs ys e h q f = (
+    let a = length-in d′ l in
+        let b = length-in d l in
+        let u = ap length e in
+        let v = ap length q in
+        let w = h .0 in
+        omega arith,
+    rw e (h .1),
+  )
+
+  each : (l : ℕ) → l < 3 → (countIn d′ l ≤ 512) × (risingRefs (listIn d′ l) ≡ true)
+  unfolding changeSetOf
+  each zero h = one 0 _ _ (ap (λ (c : ChangeSet). c .created) (n .set)) (normal-created (changeSetOf d)) refl (ok .lists .few 0 h)
+  each (suc zero) h = one 1 _ _ (ap (λ (c : ChangeSet). c .modified) (n .set)) (normal-modified (changeSetOf d)) refl (ok .lists .few 1 h)
+  each (suc (suc zero)) h = one 2 _ _ (ap (λ (c : ChangeSet). c .deleted) (n .set)) (normal-deleted (changeSetOf d)) refl (ok .lists .few 2 h)
+  each (suc (suc (suc l))) h = absurd (let z : ⊥ = omega arith in z)
+
+  pub normal-fits : Fits d′
+  normal-fits = record { room = record { size = n .size; few = λ l h. each l h .0 }; rises = λ l h. each l h .1 }
+
+  same-warnings : countIn d′ 3 ≡ countIn d 3
+  unfolding changeSetOf
+  same-warnings =
+      sym (length-warnings d′ 3076 (countIn d′ 3)) ∙ ap length (ap (λ (c : ChangeSet). c .warnings) (n .set) ∙ normal-warnings (changeSetOf d)) ∙ length-warnings d 3076 (countIn d 3)
+
+  pub normal-roomy : RoomyAll d′
+  normal-roomy = record { lists = normal-fits .room; warnings = let a = same-warnings in let b = ok .warnings in omega arith }
+
+-- ---- each answer
+
+no-fine : {A : Type 0} {x : Refusal} → k.Refused x ≡ k.Fine → A
+no-fine q = let z : _≡_ {A = ℕ} 0 1 = cc in absurd (omega arith)
+
+no-refusal : {A : Type 0} {x : Refusal} → k.Fine ≡ k.Refused x → A
+no-refusal q = let z : _≡_ {A = ℕ} 0 1 = cc in absurd (omega arith)
+
+pub settle-asks : (f d d′ : List ℕ) → listsOkIn f ≡ true → RoomyAll d → Normalized d d′ → Fits f × Fits d′
+settle-asks f d d′ okf ok n = (fits-ok f okf, normal-fits d d′ ok n)
+
+module _ (f d d′ : List ℕ) (ok : RoomyAll d) (n : Normalized d d′) (late : Bool) where
+  turned-down : (x : Refusal) (f′ : List ℕ) → f′ ≡ f → refusedAs x ≡ settled (changeSetOf f) (normalize (changeSetOf d)) late → FoldSettled f d late (k.Refused x) f′ d′
+  turned-down x f′ q e = record { answer = e; set = n .set; room = normal-roomy d d′ ok n; fold = no-fine; kept = λ _ _. q }
+
+  module _ (t : late ≡ true) (b : Bool) (h : b ≡ foldFits (foldStep (changeSetOf f) (changeSetOf d′))) where
+    pub late-full : not b ≡ true → FoldSettled f d late (k.Refused e.Full) f d′
+    unfolding settled
+    late-full q = turned-down e.Full f refl (rw (← n .set, ← h, not-true b q))
+
+    pub late-spent : not b ≡ false → FoldSettled f d late (k.Refused e.NumbersSpent) f d′
+    unfolding settled
+    late-spent q = turned-down e.NumbersSpent f refl (rw (← n .set, ← h, not-false b q, t))
+
+  module _ (t : late ≡ false) (q : Folded) (f′ : List ℕ) (h : FoldsTo f d′ q f′) where
+    pub fold-refused : (x : Refusal) → q ≡ s.Refused x → FoldSettled f d late (k.Refused x) f′ d′
+    unfolding settled foldFitted
+    fold-refused x r =
+        turned-down x f′ (h .unchanged (ap isRefused r)) (rw (← n .set, t) (go (foldFits (foldStep (changeSetOf f) (changeSetOf d′))) (foldStep (changeSetOf f) (changeSetOf d′)) (sym (ap (λ (y : Folded). foldedAs y (changeSetOf f′)) r) ∙ h .answer)))
+      where
+        go : (b : Bool) (g : ChangeSet) → refusedAs x ≡ (refuseWhen (not b) 10 [] >> done g) → refusedAs x ≡ (refuseWhen (not b) 10 [] >> refuseWhen false 11 [])
+        go true g z = absurd (let y : _≡_ {A = ℕ} 0 1 = cc in omega arith)
+        go false g z = cc
+
+    pub fold-done : q ≡ s.Done → FoldSettled f d late k.Fine f′ d′
+    unfolding settled foldFitted
+    fold-done r =
+        let z : done (changeSetOf f′) ≡ (refuseWhen (not (foldFits (foldStep (changeSetOf f) (changeSetOf d′)))) 10 [] >> done (foldStep (changeSetOf f) (changeSetOf d′))) = sym (ap (λ (y : Folded). foldedAs y (changeSetOf f′)) r) ∙ h .answer in
+        record {
+          answer = rw (← n .set, t) (goes (foldFits (foldStep (changeSetOf f) (changeSetOf d′))) (foldStep (changeSetOf f) (changeSetOf d′)) (changeSetOf f′) z);
+          set = n .set;
+          room = normal-roomy d d′ ok n;
+          fold = λ _. rw (← n .set) (folds (foldFits (foldStep (changeSetOf f) (changeSetOf d′))) (foldStep (changeSetOf f) (changeSetOf d′)) (changeSetOf f′) z);
+          kept = λ _ y. no-refusal y;
+        }
+      where
+        goes : (b : Bool) (g a : ChangeSet) → done a ≡ (refuseWhen (not b) 10 [] >> done g) → done tt ≡ (refuseWhen (not b) 10 [] >> refuseWhen false 11 [])
+        goes true g a z = refl
+        goes false g a z = absurd (let y : _≡_ {A = ℕ} 0 1 = cc in omega arith)
+
+        folds : (b : Bool) (g a : ChangeSet) → done a ≡ (refuseWhen (not b) 10 [] >> done g) → a ≡ g
+        folds true g a z = cc
+        folds false g a z = absurd (let y : _≡_ {A = ℕ} 0 1 = cc in omega arith)
+
+pub ruleset settling = (late-full, late-spent, fold-refused, fold-done)

@@ -1,0 +1,74 @@
+-- A call, step by step: what is tested of what is lent, what is planned, what the fold settles; and what the code of each step leaves.
+use Prim.Native.Nat.{ℕ, _^_, _≤_, _<_}
+use mathlib.Core.Path.{_≡_}
+use mathlib.Core.Bool.{Bool, not, _&&_}
+use mathlib.Core.List.{List, []}
+use lib.Dec.{eqb, leb}
+use lib.ListN.{length}
+use Rattle.refusal.specs.Answer.{Answer, refused, done, _>>=_, _>>_, refuseWhen}
+use Rattle.refusal.specs.declared.Refusal.{Refusal}
+use Rattle.rows.specs.Lists.{every}
+use Rattle.geometry.specs.Point.{pointOnMap}
+use Rattle.map.specs.Record.{Map}
+use Rattle.map.specs.Ceilings.{withinCeilings}
+use Rattle.map.specs.Tables.{mapOf, isMapTables}
+use Rattle.changes.specs.ChangeSet.{ChangeSet, normalize, foldStep}
+use Rattle.changes.specs.ChangeFile.{listsOk}
+use Rattle.changes.specs.Layout.{setWords, countIn, listIn, warningsAt, changeSetOf}
+use Rattle.changes.specs.Running.{foldOk, foldFits}
+use Rattle.sets.specs.Tables.{Roomy}
+use Rattle.placing.specs.declared.Checked.{Checked}
+use Rattle.placing.specs.declared.Checked.the-variants.{Fine, Refused}
+use Rattle.placing.specs.Answers.{checked}
+use Rattle.edit.specs.Edit.{Draft}
+use Rattle.edit.specs.Lent.{Lent, stateOf}
+
+-- ---- the steps
+
+-- 12, then 13
+unfoldable pub lentChecks : Lent → Answer (Unit {0})
+lentChecks l = do
+  refuseWhen (not (isMapTables (l .words) (l .coords))) 12 []
+  refuseWhen (not (eqb (length (l .fold)) setWords && eqb (length (l .set)) setWords && (listsOk (changeSetOf (l .fold)) && foldOk (stateOf l)))) 13 []
+
+-- the edit's own refusals, 9 for stored points, and 10 for the map
+unfoldable pub planned : (Map → Answer Draft) → Map → Answer Draft
+planned edit m = do
+  d ← edit m
+  refuseWhen (not (every pointOnMap (d .stored))) 9 []
+  refuseWhen (not (withinCeilings (d .map))) 10 []
+  done d
+
+-- 10 for the fold f and the set c, then 11
+unfoldable pub settled : ChangeSet → ChangeSet → Bool → Answer (Unit {0})
+settled f c late = do
+  refuseWhen (not (foldFits (foldStep f c))) 10 []
+  refuseWhen late 11 []
+
+-- all refusals of a call, and then what is to be stored
+unfoldable pub steps : (Map → Answer Draft) → Lent → Answer Draft
+steps edit l = do
+  lentChecks l
+  d ← planned edit (mapOf (l .words) (l .coords))
+  settled (changeSetOf (l .fold)) (normalize (d .changes)) (leb (2 ^ 64) (d .map .next))
+  done d
+
+-- ---- what the code leaves
+
+-- a table whose four counts are within their room
+pub record RoomyAll (w : List ℕ) : Type 0 where
+  pub lists : Roomy w
+  pub warnings : countIn w 3 ≤ 160
+
+-- d's warnings in w, whose lists stay
+pub record WarningsCopied (w d w′ : List ℕ) : Type 0 where
+  pub lists : (l : ℕ) → l < 3 → countIn w l ≤ 512 → listIn w′ l ≡ listIn w l
+  pub warnings : warningsAt w′ 3076 (countIn w′ 3) ≡ warningsAt d 3076 (countIn d 3)
+
+-- the draft d normalized, and taken into the fold f where nothing refuses
+pub record FoldSettled (f d : List ℕ) (late : Bool) (r : Checked) (f′ d′ : List ℕ) : Type 0 where
+  pub answer : checked r ≡ settled (changeSetOf f) (normalize (changeSetOf d)) late
+  pub set : changeSetOf d′ ≡ normalize (changeSetOf d)
+  pub room : RoomyAll d′
+  pub fold : r ≡ Fine → changeSetOf f′ ≡ foldStep (changeSetOf f) (normalize (changeSetOf d))
+  pub kept : (e : Refusal) → r ≡ Refused e → f′ ≡ f
