@@ -1,2 +1,4 @@
 pub mod Sorting
 pub mod Linking
+pub mod Kinds
+pub mod LightLinks
