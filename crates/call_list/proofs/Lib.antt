@@ -4,3 +4,4 @@ pub mod Steps
 pub mod Walk
 pub mod Ends
 pub mod Decode
+pub mod Numbers

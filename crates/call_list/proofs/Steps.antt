@@ -5,6 +5,7 @@ use mathlib.Core.Bool.{Bool, true, false, not}
 use mathlib.Core.Option.{Option, none, some}
 use mathlib.Core.List.{List, [], _∷_}
 use lib.Dec.{eqb}
+use lib.Ieee.{Float}
 use lib.ListN.{length, getD}
 use borrow.Author.Tests.{eq-eqb}
 use Rattle.refusal.specs.Answer.{Answer, refused, done}
@@ -12,6 +13,7 @@ use Rattle.rows.proofs.Bools.{clash}
 use Rattle.store.specs.Layout.{allWords, allCoords}
 use Rattle.map.specs.MapFile.{isMap}
 use Rattle.map.specs.Tables.{mapOf, isMapTables}
+use Rattle.changes.specs.declared.Tally.{Tally}
 use Rattle.changes.specs.Layout.{setWords}
 use Rattle.changes.specs.Running.{State}
 use Rattle.edit.specs.declared.Called.{Called}
@@ -66,3 +68,16 @@ step-done e old x new r h w = record { reply = w .words new ∙ ap replyOf (h .a
 pub step-none : (old : Lent) (r : Reply) → replyWords r ≡ noCall → StepLeft none old r old
 unfolding replyTo heldBy
 step-none old r w = record { reply = w; held = refl; kept = λ q. refl }
+
+-- ---- as the code has them: the lent memory taken apart, and the tally by value
+
+abbrev pub lent : List ℕ → List Float → List ℕ → Tally → List ℕ → Lent
+lent ws cs f t s = record { words = ws; coords = cs; fold = f; tally = t; set = s }
+
+pub not-called : (o : Option Edit) (ws : List ℕ) (cs : List Float) (f : List ℕ) (t : Tally) (s : List ℕ) (r : Reply) (t′ : Tally)
+    → o ≡ none → replyWords r ≡ noCall → t′ ≡ t → StepLeft o (lent ws cs f t s) r (lent ws cs f t′ s)
+not-called o ws cs f t s r t′ p w q = rw (p, q) (step-none (lent ws cs f t s) r w)
+
+pub was-called : (o : Option Edit) (e : Edit) (old : Lent) (x : Called) (ws : List ℕ) (cs : List Float) (f : List ℕ) (t : Tally) (s : List ℕ) (r : Reply) (t′ : Tally)
+    → o ≡ some e → CallLeft (runOne e) old x (lent ws cs f t s) → Replied x r → t′ ≡ t → StepLeft o old r (lent ws cs f t′ s)
+was-called o e old x ws cs f t s r t′ p h w q = rw (p, q) (step-done e old x (lent ws cs f t s) r h w)

@@ -1,5 +1,6 @@
 // Lists of calls in plain memory: what a row asks for, what it is answered, and what a run of them leaves.
 use changes::Tally;
+use edit::Answered;
 use edit::Called;
 use refusal::Refusal;
 use store::layout;
@@ -112,6 +113,28 @@ pub fn reply_of(c: Called) -> Reply
     }
 }
 
+// What is no call leaves the tally as it is.
+pub fn not_called(tally: Tally) -> Carried
+    ensures { λ r. ⌜ (replyWords (r .reply) ≡ noCall) × (r .tally ≡ tally) ⌝ }
+{
+    Carried {
+        reply: no_call(),
+        tally,
+    }
+}
+
+// A call's answer in words, with its tally.
+pub fn in_words(a: Answered) -> Carried
+    ensures { λ r. ⌜ (Replied (a .called) (r .reply)) × (r .tally ≡ a .tally) ⌝ }
+{
+    let called = a.called;
+    let tally = a.tally;
+    Carried {
+        reply: reply_of(called),
+        tally,
+    }
+}
+
 // Whether the n entries from index at lie within a pool of len entries.
 pub fn within(len: usize, at: u64, n: u64) -> bool
     ensures { λ r. ⌜ r ≡ leb (at + n) len ⌝ }
@@ -194,10 +217,10 @@ pub fn check_run(
     if coords.len() != layout::COORDS {
         return Ran::Refused(Refusal::BadMap);
     }
-    if fold.len() != SET {
+    if fold.len() != changes::layout::WORDS {
         return Ran::Refused(Refusal::BadSet);
     }
-    if set.len() != SET {
+    if set.len() != changes::layout::WORDS {
         return Ran::Refused(Refusal::BadSet);
     }
     let n = calls.len() / 26;

@@ -21,7 +21,7 @@ use Rattle.changes.specs.ChangeSet.{ChangeSet}
 use Rattle.changes.specs.ChangeFile.{maxWarnings, warningForm, warnings, entries, changeFile, isSet, listsOk}
 use Rattle.changes.specs.Layout.{setWords, countIn, warningsAt, changeSetOf, listsOkIn, isSetIn}
 use Rattle.sets.proofs.TableLaws.{fits-ok}
-use Rattle.checks.proofs.CheckLaws.{set-parts, length-warnings}
+use Rattle.set_tests.proofs.SetLaws.{set-parts, length-warnings}
 use Rattle.setfile.specs.SetFile.{Counted}
 use Rattle.files.specs.Files.{putIn, writeChanges}
 use Rattle.files.specs.WriteOut.{written, FileWritten, writeSet, ChangesWritten}

@@ -107,7 +107,7 @@ pub fn read_changes(s: &[u8], set: &mut [u64]) -> ChangesRead
     if n < s.len() {
         return ChangesRead::Refused(Refusal::BadSet);
     }
-    if !checks::is_set(&spare) {
+    if !set_tests::is_set(&spare) {
         return ChangesRead::Refused(Refusal::BadSet);
     }
     rows::put(set, 0, &spare);
@@ -118,7 +118,7 @@ pub fn read_changes(s: &[u8], set: &mut [u64]) -> ChangesRead
 pub fn write_changes(set: &[u64], buffer: &mut [u8]) -> Written
     ensures { λ r. ⌜ ChangesWritten (now (set .entry)) (now (buffer .entry)) r (now (buffer .exit)) ⌝ }
 {
-    if !checks::is_set(set) {
+    if !set_tests::is_set(set) {
         return Written::Refused(Refusal::BadSet);
     }
     let mut none: [u8; 1] = [0];

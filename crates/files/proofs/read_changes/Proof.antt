@@ -4,7 +4,7 @@ use Rattle.files.proofs.read_changes.Statement.{statement}
 use Rattle.files.proofs.read_changes.Tie as tie
 use Rattle.files.proofs.read_changes.Reads as reads
 use Rattle.files.proofs.read_changes.Lts as lts
-use Rattle.checks.proofs.is_set.Reads as is-set-reads
+use Rattle.set_tests.proofs.is_set.Reads as is-set-reads
 use Rattle.rows.proofs.put.Reads as put-reads
 use Rattle.setfile.proofs.load_set.Reads as load-set-reads
 

@@ -4,7 +4,7 @@ use Rattle.files.proofs.write_changes.Statement.{statement}
 use Rattle.files.proofs.write_changes.Tie as tie
 use Rattle.files.proofs.write_changes.Reads as reads
 use Rattle.files.proofs.write_changes.Lts as lts
-use Rattle.checks.proofs.is_set.Reads as is-set-reads
+use Rattle.set_tests.proofs.is_set.Reads as is-set-reads
 use Rattle.setfile.proofs.put_set.Reads as put-set-reads
 
 is-set-requires : tie.Need-is-set-requires
