@@ -107,32 +107,35 @@ list-put f most v n old mid new p q r k x i h =
     let e : k ≡ n = omega (arith, i .few) in
     rw (length-listTo v n) (put-then _ _ old mid new p q r x (rw e at (i .stand)))
 
--- ---- a number
+-- ---- a form whose size is known
 
-module _ (n : ℕ) (old : Bytes) (p : Place) where
-  pub put-lost : p ≡ P.Fault → PutAt (number .write n) old p P.Fault old
+module _ (form old : Bytes) (p : Place) where
+  pub put-lost : p ≡ P.Fault → PutAt form old p P.Fault old
   unfolding ahead
   put-lost e = record { next = rw e; long = refl; made = λ i j ep er h. absurd (lost-place er) }
 
-  module _ (i size : ℕ) (e : p ≡ P.At i) (s : size ≡ length (number .write n)) where
-    pub put-far : 18446744073709551615 - i < size → PutAt (number .write n) old p P.Fault old
+  module _ (i size : ℕ) (e : p ≡ P.At i) (s : size ≡ length form) where
+    pub put-far : 18446744073709551615 - i < size → PutAt form old p P.Fault old
     unfolding ahead
     put-far h = record { next = rw (e, ← s, le-ltb (i + size) (2 ^ 64) (omega arith)); long = refl; made = λ a b ep er k. absurd (lost-place er) }
 
     module _ (h : size ≤ 18446744073709551615 - i) (l : i < 2 ^ 64) where
-      goes : P.At (i + size) ≡ ahead p (length (number .write n))
+      goes : P.At (i + size) ≡ ahead p (length form)
       unfolding ahead
       goes = rw (e, ← s, lt-ltb (i + size) (2 ^ 64) (omega arith))
 
-      pub put-short : length old < i + size → PutAt (number .write n) old p (P.At (i + size)) old
+      pub put-short : length old < i + size → PutAt form old p (P.At (i + size)) old
       put-short k = record { next = goes; long = refl; made = λ a b ep er m. let z = same-place er in absurd (let y : ⊥ = omega arith in y) }
 
-      pub put-got : (new : Bytes) (r : ℕ) → Wrote (number .write n) old i r new → PutAt (number .write n) old p (P.At (i + size)) new
-      put-got new r w =
+      pub put-made : (new : Bytes) → new ≡ sets old i form → PutAt form old p (P.At (i + size)) new
+      put-made new w =
           record {
             next = goes;
-            long = ap length (w .made) ∙ length-sets old i (number .write n);
-            made = λ a b ep er m. let z : i ≡ a = same-place (sym e ∙ ep) in rw (← z) (w .made);
+            long = ap length w ∙ length-sets old i form;
+            made = λ a b ep er m. let z : i ≡ a = same-place (sym e ∙ ep) in rw (← z) w;
           }
 
-pub ruleset putting-number = (put-lost, put-far, put-short, put-got)
+      pub put-wrote : (new : Bytes) (r : ℕ) → Wrote form old i r new → PutAt form old p (P.At (i + size)) new
+      put-wrote new r w = put-made new (w .made)
+
+pub ruleset putting-form = (put-lost, put-far, put-short, put-made, put-wrote)

@@ -8,37 +8,37 @@ use Rattle.codec.proofs.number_size.Reads as number-size-reads
 use Rattle.codec.proofs.write_number.Reads as write-number-reads
 
 enum-known-p : tie.Need-enum-known-p
-enum-known-p c = search (needs, L.putting-number)
+enum-known-p c = search (needs, L.putting-form)
 
 enum-told : tie.Need-enum-told
-enum-told c = search (needs, L.putting-number)
+enum-told c = search (needs, L.putting-form)
 
 returns : tie.Need-returns
-returns c = search (needs, L.putting-number)
+returns c = search (needs, L.putting-form)
 
 number-size-requires : tie.Need-number-size-requires
-number-size-requires c κs = search (needs, L.putting-number)
+number-size-requires c κs = search (needs, L.putting-form)
 
 sub-if1 : tie.Need-sub-if1
-sub-if1 c = search (needs, L.putting-number)
+sub-if1 c = search (needs, L.putting-form)
 
 returns-2 : tie.Need-returns-2
-returns-2 c = search (needs, L.putting-number)
+returns-2 c = search (needs, L.putting-form)
 
 add-next : tie.Need-add-next
-add-next c = search (needs, L.putting-number)
+add-next c = search (needs, L.putting-form)
 
 returns-3 : tie.Need-returns-3
-returns-3 c = search (needs, L.putting-number)
+returns-3 c = search (needs, L.putting-form)
 
 write-number-requires : tie.Need-write-number-requires
-write-number-requires c κs = search (needs, L.putting-number)
+write-number-requires c κs = search (needs, L.putting-form)
 
 same-length : tie.Need-same-length
-same-length c = search (needs, L.putting-number)
+same-length c = search (needs, L.putting-form)
 
 returns-4 : tie.Need-returns-4
-returns-4 c = search (needs, L.putting-number)
+returns-4 c = search (needs, L.putting-form)
 
 pub put-number-spec : {M : Type 1} → statement M
 put-number-spec =
