@@ -19,12 +19,10 @@ use Rattle.map.specs.Record.{Map}
 use Rattle.map.specs.Ceilings.{withinCeilings}
 use Rattle.map.specs.Rows.{fresh, withLine}
 use Rattle.map.specs.Tables.{mapOf, isMapTables}
-use Rattle.map.proofs.SoundLaws.{Sound, sound}
 use Rattle.changes.specs.declared.Tally.{Tally}
 use Rattle.changes.specs.ChangeSet.{ChangeSet, tallyOf, normalize, foldStep}
-use Rattle.changes.specs.Layout.{setWords, changeSetOf, listsOkIn}
+use Rattle.changes.specs.Layout.{changeSetOf}
 use Rattle.changes.specs.Running.{foldFits}
-use Rattle.sets.proofs.TableLaws.{ok-size-of}
 use Rattle.place.specs.Place.{Placed}
 use Rattle.place.specs.Values.{Roomy}
 use Rattle.place.proofs.LineLaws.{line-part}
@@ -35,42 +33,22 @@ use Rattle.placing.specs.Answers.{checked, placedAnswer}
 use Rattle.edit.specs.declared.Called.{Called}
 use Rattle.edit.specs.declared.Called.the-variants as c
 use Rattle.edit.specs.declared.StopRule.{StopRule}
-use Rattle.edit.specs.Edit.{Draft, call}
+use Rattle.edit.specs.Edit.{Draft}
 use Rattle.edit.specs.Lent.{Lent, CallLeft}
 use Rattle.edit.specs.StopLine.{NewStopLine, ruleAt, stopLineEdit, addStopLine}
-use Rattle.finishing.specs.Finish.{RoomyAll, lentChecks, planned, FoldSettled}
-use Rattle.finishing.proofs.CallLaws.{LentFine, lent-fine, lent-refused, plan-refused, call-refused, last-refused, last-done, not-late, plan-within}
-use Rattle.stop_lines.specs.Stop.{newStopLine, placedDraft, ruleRoom, roomFor, clampedBy, lineChanges, SetDrafted, nextAfter, ruled, LinePlanned, CallEnds}
+use Rattle.finishing.specs.Finish.{lentChecks, planned, CallEnds, FoldSettled}
+use Rattle.finishing.proofs.CallLaws.{LentFine, lent-fine, lent-refused, plan-refused, call-refused, ends-refused, ends-done, not-late, plan-within}
+use Rattle.stop_lines.specs.Stop.{newStopLine, placedDraft, ruleRoom, roomFor, clampedBy, lineChanges, SetDrafted, nextAfter, ruled, LinePlanned}
 use Rattle.stop_lines.proofs.RoomLaws.{within-room, HasRoom, has-room}
 use Rattle.stop_lines.proofs.DraftLaws.{draft-changes, draft-next, draft-map, draft-id, exact, fits-alike}
-
--- the same call, where the answer is known to be x and the tally t
-answered-as : (old : Lent) (d : Draft) (x r : Called) (t u : Tally) (ws : List ℕ) (cs : List Float) (f s : List ℕ) → r ≡ x → u ≡ t
-    → CallEnds old d x (record { words = ws; coords = cs; fold = f; tally = t; set = s }) → CallEnds old d r (record { words = ws; coords = cs; fold = f; tally = u; set = s })
-answered-as old d x r t u ws cs f s e g h = rw (e, g) h
 
 module _ (ws : List ℕ) (cs : List Float) (f : List ℕ) (t : Tally) (s : List ℕ) where
   abbrev lent : Lent
   lent = record { words = ws; coords = cs; fold = f; tally = t; set = s }
 
   module _ (fine : lentChecks lent ≡ done tt) where
-    pub lent-sound : Sound ws cs
-    lent-sound = sound ws cs (lent-fine lent fine .tables)
-
-    pub lent-words : SizedWords ws
-    lent-words = lent-sound .sized .words
-
-    pub lent-tables : isMapTables ws cs ≡ true
-    lent-tables = lent-fine lent fine .tables
-
-    pub lent-lists : listsOkIn f ≡ true
-    lent-lists = lent-fine lent fine .fold
-
-    pub lent-set : length s ≡ setWords
-    lent-set = lent-fine lent fine .set
-
-    pub lent-fold : length f ≡ setWords
-    lent-fold = ok-size-of f lent-lists
+    pub known : LentFine lent
+    known = lent-fine lent fine
 
     -- ---- carried out
 
@@ -96,12 +74,11 @@ module _ (ws : List ℕ) (cs : List Float) (f : List ℕ) (t : Tally) (s : List 
         alike : foldFits (foldStep (changeSetOf f) (normalize (changeSetOf t0))) ≡ foldFits (foldStep (changeSetOf f) (normalize (draft .changes)))
         alike =
             ap (λ (x : ChangeSet). foldFits (foldStep (changeSetOf f) (normalize x))) (ht .set)
-            ∙ fits-alike (changeSetOf f) (mapOf ws cs .next) n (ht .second) (lent-fine lent fine .below) (let a = is-fresh in omega arith) (clampedBy clamped (getD lanes 0 0)) (ht .follows .from) rule
+            ∙ fits-alike (changeSetOf f) (mapOf ws cs .next) n (ht .second) (known .below) (let a = is-fresh in omega arith) (clampedBy clamped (getD lanes 0 0)) (ht .follows .from) rule
             ∙ ap (λ (x : ChangeSet). foldFits (foldStep (changeSetOf f) (normalize x))) (sym changes-are)
 
         pub out-refused : (x : Refusal) → r ≡ k.Refused x → (a : Called) (u : Tally) → (a ≡ c.Refused x) × (u ≡ t) → CallEnds lent draft a (record { words = ws; coords = cs; fold = f′; tally = u; set = s })
-        out-refused x q a u e =
-            answered-as lent draft (c.Refused x) a t u ws cs f′ s (e .0) (e .1) (record { left = λ edit plan. last-refused edit lent fine draft plan t0 late late-is r f′ t1 h alike x q })
+        out-refused x q a u e = ends-refused lent fine draft t0 late late-is r f′ t1 h alike x q a u e
 
         module _ (q : r ≡ k.Fine) where
           pub numbers-left : nextAfter rule (max 1 (nextOf ws)) < 2 ^ 64
@@ -113,31 +90,24 @@ module _ (ws : List ℕ) (cs : List Float) (f : List ℕ) (t : Tally) (s : List 
           pub out-done : (s′ ws′ : List ℕ) (cs′ : List Float) (u : Tally) → changeSetOf s′ ≡ changeSetOf t1
               → mapOf ws′ cs′ ≡ ruled (ruleAt rule n) (withLine (mapOf ws cs) (polylineOf pts)) lanes → u ≡ tallyOf (changeSetOf f′)
               → CallEnds lent draft (c.Done n) (record { words = ws′; coords = cs′; fold = f′; tally = u; set = s′ })
-          out-done s′ ws′ cs′ u es em eu = record {
-            left = λ edit plan.
-                last-done edit lent fine draft plan t0 late late-is r f′ t1 h same-set q ws′ cs′ u s′ n
-                (em ∙ ap (λ (i : ℕ). ruled (ruleAt rule i) (withLine (mapOf ws cs) (polylineOf pts)) lanes) is-fresh ∙ sym (draft-map lanes (mapOf ws cs) placed rule)) eu es (is-fresh ∙ sym (draft-id lanes (mapOf ws cs) placed rule));
-          }
+          out-done s′ ws′ cs′ u es em eu =
+              ends-done lent fine draft t0 late late-is r f′ t1 h same-set q ws′ cs′ u s′ n
+              (em ∙ ap (λ (i : ℕ). ruled (ruleAt rule i) (withLine (mapOf ws cs) (polylineOf pts)) lanes) is-fresh ∙ sym (draft-map lanes (mapOf ws cs) placed rule)) eu es (is-fresh ∙ sym (draft-id lanes (mapOf ws cs) placed rule))
 
       module _ (within : withinCeilings (draft .map) ≡ true) (few : length pts ≤ 192) where
         pub room-left : HasRoom rule (length lanes) (countOf ws 2) (countOf ws 5)
         room-left =
             has-room rule (length lanes) (countOf ws 2) (countOf ws 5) (allPoints ws) (length (polylineOf pts))
-            (sym (within-room ws cs (lent-sound .map) placed (let a = length-points pts in omega arith) lanes rule) ∙ within)
+            (sym (within-room ws cs (known .sound .map) placed (let a = length-points pts in omega arith) lanes rule) ∙ within)
 
   -- ---- the whole call
 
   module _ (a : NewStopLine) where
-    left-alone : (x : Refusal) (r : Called) (u : Tally) → (r ≡ c.Refused x) × (u ≡ t) → CallLeft (call (stopLineEdit a)) lent (c.Refused x) lent
-        → CallLeft (addStopLine a) lent r (record { words = ws; coords = cs; fold = f; tally = u; set = s })
-    unfolding addStopLine
-    left-alone x r u e h = rw (e .0, e .1) h
-
     module _ (r0 : Checked) (h0 : checked r0 ≡ lentChecks lent) where
       pub lent-turned-down : (x : Refusal) → r0 ≡ k.Refused x → (r : Called) (u : Tally) → (r ≡ c.Refused x) × (u ≡ t)
           → CallLeft (addStopLine a) lent r (record { words = ws; coords = cs; fold = f; tally = u; set = s })
-      lent-turned-down x q r u e =
-          left-alone x r u e (call-refused (stopLineEdit a) lent x (lent-refused (stopLineEdit a) lent x (sym h0 ∙ ap checked q)) lent refl)
+      unfolding addStopLine
+      lent-turned-down x q r u e = call-refused (stopLineEdit a) lent x (lent-refused (stopLineEdit a) lent x (sym h0 ∙ ap checked q)) f refl r u e
 
       module _ (q : r0 ≡ k.Fine) where
         pub is-fine : lentChecks lent ≡ done tt
@@ -146,8 +116,8 @@ module _ (ws : List ℕ) (cs : List Float) (f : List ℕ) (t : Tally) (s : List 
         module _ (p : PlacedLine) (hp : LinePlanned ws cs a p) where
           pub plan-turned-down : (x : Refusal) → p .checked ≡ k.Refused x → (r : Called) (u : Tally) → (r ≡ c.Refused x) × (u ≡ t)
               → CallLeft (addStopLine a) lent r (record { words = ws; coords = cs; fold = f; tally = u; set = s })
-          plan-turned-down x e r u g =
-              left-alone x r u g (call-refused (stopLineEdit a) lent x (plan-refused (stopLineEdit a) lent is-fine x (sym (hp .answer) ∙ rw e)) lent refl)
+          unfolding addStopLine
+          plan-turned-down x e r u g = call-refused (stopLineEdit a) lent x (plan-refused (stopLineEdit a) lent is-fine x (sym (hp .answer) ∙ rw e)) f refl r u g
 
           module _ (e : p .checked ≡ k.Fine) where
             abbrev pts : List Float

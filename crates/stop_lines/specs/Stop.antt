@@ -26,11 +26,9 @@ use Rattle.place.specs.Values as line
 use Rattle.placing.specs.declared.Checked.the-variants.{Fine}
 use Rattle.placing.specs.declared.PlacedLine.{PlacedLine}
 use Rattle.placing.specs.Answers.{placedAnswer}
-use Rattle.edit.specs.declared.Called.{Called}
 use Rattle.edit.specs.declared.StopRule.{StopRule}
 use Rattle.edit.specs.declared.StopRule.the-variants.{StopSign, Marking, NoRule}
-use Rattle.edit.specs.Edit.{Draft, call}
-use Rattle.edit.specs.Lent.{Lent, CallLeft}
+use Rattle.edit.specs.Edit.{Draft}
 use Rattle.edit.specs.StopLine.{NewStopLine, ruleAt, lineDraft, stopLineEdit}
 use Rattle.finishing.specs.Finish.{RoomyAll, planned}
 
@@ -117,7 +115,3 @@ ruled (some w) m lanes = withRule m w lanes
 
 pub record RuleAdded (ws : List ℕ) (rule : StopRule) (n : ℕ) (lanes ws′ : List ℕ) : Type 0 where
   pub map : (cs : List Float) → length cs ≡ allCoords → mapOf ws′ cs ≡ ruled (ruleAt rule n) (mapOf ws cs) lanes
-
--- what a call leaves whose draft is d, however it came to it
-pub record CallEnds (old : Lent) (d : Draft) (r : Called) (new : Lent) : Type 0 where
-  pub left : (edit : Map → Answer Draft) → planned edit (mapOf (old .words) (old .coords)) ≡ done d → CallLeft (call edit) old r new

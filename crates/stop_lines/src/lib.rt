@@ -9,7 +9,6 @@ use edit::Called;
 use edit::StopRule;
 use place::Placement;
 use placing::Checked;
-use refusal::Refusal;
 ghost use mathlib.Core.Path.{_≡_};
 ghost use mathlib.Core.Bool.{true, cond};
 ghost use mathlib.Core.List.{[], _∷_};
@@ -22,17 +21,8 @@ ghost use Rattle.map.specs.Ceilings.{withinCeilings};
 ghost use Rattle.map.specs.Tables.{mapOf};
 ghost use Rattle.edit.specs.Lent.{CallLeft};
 ghost use Rattle.edit.specs.StopLine.{addStopLine};
-ghost use Rattle.finishing.specs.Finish.{lentChecks};
-ghost use Rattle.stop_lines.specs.Stop.{newStopLine, placedDraft, clampedBy, CallEnds};
-
-fn refused(r: Refusal, tally: Tally) -> Answered
-    ensures { λ a. ⌜ (a .called ≡ Called.Refused r) × (a .tally ≡ tally) ⌝ }
-{
-    Answered {
-        called: Called::Refused(r),
-        tally,
-    }
-}
+ghost use Rattle.finishing.specs.Finish.{lentChecks, CallEnds};
+ghost use Rattle.stop_lines.specs.Stop.{newStopLine, placedDraft, clampedBy};
 
 // The plan carried out: the change set settled with the fold, and only then all else is stored.
 fn carry_out(
@@ -55,7 +45,7 @@ fn carry_out(
     let late = draft::is_late(rule, number);
     let settled = finishing::settle(fold, &mut set_drafted, late);
     if let Checked::Refused(r) = settled {
-        return refused(r, tally);
+        return finishing::refused(r, tally);
     }
     finishing::copy_set(set, &set_drafted);
     storing::store(words, coords, points, rule, number, lanes);
@@ -81,12 +71,12 @@ pub fn add_stop_line(
 {
     let lent = finishing::check_lent(words, coords, fold, tally, set);
     if let Checked::Refused(r) = lent {
-        return refused(r, tally);
+        return finishing::refused(r, tally);
     }
     let placed = plan::line_plan(words, coords, lanes, how, given, rule);
     let checked = placed.checked;
     if let Checked::Refused(r) = checked {
-        return refused(r, tally);
+        return finishing::refused(r, tally);
     }
     let line = placed.line;
     let points = line.coords;
