@@ -27,6 +27,7 @@ use Rattle.fields.specs.Fields.{bulbFrom}
 use Rattle.fields.specs.declared.Place.{Place}
 use Rattle.fields.specs.declared.Place.the-variants as P
 use Rattle.putting.specs.Putting.{PutAt}
+use Rattle.putfields.specs.Entries.{entriesIn}
 use Rattle.putting.proofs.PutLaws.{put-then, Items, items-start, items-more, list-put, put-lost, put-far, put-short, put-made}
 
 -- ---- reading past the end
@@ -204,8 +205,8 @@ module _ (ws : List ℕ) (from n : ℕ) where
   pub numbered-more : (old out new : Bytes) (p q r : Place) (i : ℕ) → Numbered ws from n old p out q i → i < n → PutAt (number .write (getD ws (from + i) 0)) out q r new → Numbered ws from n old p new r (i + 1)
   numbered-more old out new p q r i x h y = record { items = items-more _ _ n old out new p q r i (x .items) h y }
 
-  pub numbered-end : (old mid new : Bytes) (p q r : Place) (i : ℕ) → PutAt (number .write n) old p q mid → Numbered ws from n mid q new r i → n ≤ i → PutAt (numbers .write (listTo (λ j. getD ws (from + j) 0) n)) old p r new
-  unfolding numbers
+  pub numbered-end : (old mid new : Bytes) (p q r : Place) (i : ℕ) → PutAt (number .write n) old p q mid → Numbered ws from n mid q new r i → n ≤ i → PutAt (numbers .write (entriesIn ws from n)) old p r new
+  unfolding numbers entriesIn
   numbered-end old mid new p q r i x y h = list-put number 16 _ n old mid new p q r i x (y .items) h
 
 pub ruleset putting-numbers = (numbered-start, numbered-more, numbered-end)

@@ -17,6 +17,7 @@ ghost use Rattle.map.specs.MapFile.{height, point, polyline, numbers, bulb};
 ghost use Rattle.map.specs.Tables.{pointFrom, lineAt, bulbAt};
 ghost use Rattle.fields.specs.Fields.{bulbFrom};
 ghost use Rattle.putting.specs.Putting.{PutAt};
+ghost use Rattle.putfields.specs.Entries.{entriesIn};
 
 const LAST: usize = 0xFFFF_FFFF_FFFF_FFFF;
 
@@ -149,7 +150,7 @@ fn put_word(out: &mut [u8], p: Place, words: &[u64], at: usize, k: usize) -> Pla
 
 // A list of n numbers, which begin at word `from`.
 pub fn put_numbers(out: &mut [u8], p: Place, n: u64, words: &[u64], from: usize) -> Place
-    ensures { λ r. ⌜ PutAt (numbers .write (listTo (λ i. getD (now (words .entry)) (from + i) 0) n)) (now (out .entry)) p r (now (out .exit)) ⌝ }
+    ensures { λ r. ⌜ PutAt (numbers .write (entriesIn (now (words .entry)) from n)) (now (out .entry)) p r (now (out .exit)) ⌝ }
 {
     let mut q = putting::put_number(out, p, n);
     let count = n as usize;
