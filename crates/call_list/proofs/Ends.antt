@@ -1,16 +1,17 @@
 -- What a run leaves, from what its loop leaves; and the law of every run, for what it leaves. Assumes nothing.
 use Prim.Native.Nat.{ℕ, _*_, _<_, _≤_}
 use mathlib.Core.Path.{_≡_, refl, sym, ap, subst, _∙_}
-use mathlib.Core.Bool.{Bool, true, false}
+use mathlib.Core.Bool.{Bool, true, false, not, _&&_}
 use mathlib.Core.Option.{Option}
 use mathlib.Core.List.{List, [], _++_}
 use lib.Dec.{eqb, ltb}
 use lib.ListN.{length, drop}
-use borrow.Author.Tests.{eq-eqb, ne-eqb, lt-ltb, le-ltb}
+use borrow.Author.Tests.{eq-eqb, ne-eqb, lt-ltb, le-ltb, eqb-true, ltb-false}
+use native.Mathlib.Omega.{arith}
 use Rattle.refusal.specs.declared.Refusal.{Refusal}
-use Rattle.refusal.specs.Answer.{refused, done, refusedAs}
+use Rattle.refusal.specs.Answer.{Answer, refused, done, refusedAs, _>>_, refuseWhen}
 use Rattle.rows.specs.Lists.{listTo}
-use Rattle.rows.proofs.Bools.{clash, and-no}
+use Rattle.rows.proofs.Bools.{clash}
 use Rattle.rows.proofs.Indexed.{length-listTo}
 use Rattle.store.specs.Layout.{allWords, allCoords}
 use Rattle.map.specs.Record.{Map}
@@ -56,6 +57,37 @@ module _ (w c f s a n : ℕ) where
     pub all-fit : f ≡ setWords → s ≡ setWords → n * 4 ≤ a → done n ≡ lengthsAnswer w c f s a n
     unfolding lengthsAnswer
     all-fit r t h = rw (eq-eqb w allWords p, eq-eqb c allCoords q, eq-eqb f setWords r, eq-eqb s setWords t, le-ltb a (n * 4) h)
+
+-- and back: what the answer says of the lengths
+abbrev lengthsOf : Bool → Bool → Bool → Bool → Bool → ℕ → Answer ℕ
+lengthsOf w c f s a n = do
+  refuseWhen (not (w && c)) 12 []
+  refuseWhen (not (f && s)) 13 []
+  refuseWhen a 14 []
+  done n
+
+not-done : {A : Type 0} (m k : ℕ) (ds : List ℕ) → _≡_ {A = Answer ℕ} (done m) (refused k ds) → A
+not-done m k ds q = absurd (let z : _≡_ {A = ℕ} 0 1 = cc in let u : ⊥ = omega arith in u)
+
+pub record AllFit (l : Lent) (a n : ℕ) : Type 0 where
+  pub tables : Fitting l
+  pub answers : n * 4 ≤ a
+
+pub lengths-fit : (l : Lent) (a n m : ℕ) → done m ≡ lengthsAnswer (length (l .words)) (length (l .coords)) (length (l .fold)) (length (l .set)) a n → AllFit l a n
+unfolding lengthsAnswer
+lengths-fit l a n m h = go (eqb (length (l .words)) allWords) (eqb (length (l .coords)) allCoords) (eqb (length (l .fold)) setWords) (eqb (length (l .set)) setWords) (ltb a (n * 4)) refl refl refl refl refl h
+  where
+    go : (w c f s b : Bool) → eqb (length (l .words)) allWords ≡ w → eqb (length (l .coords)) allCoords ≡ c → eqb (length (l .fold)) setWords ≡ f → eqb (length (l .set)) setWords ≡ s → ltb a (n * 4) ≡ b
+        → done m ≡ lengthsOf w c f s b n → AllFit l a n
+    go true true true true false p q r t u h = record {
+      tables = record { words = eqb-true _ _ p; coords = eqb-true _ _ q; fold = eqb-true _ _ r; set = eqb-true _ _ t };
+      answers = ltb-false _ _ u;
+    }
+    go true true true true true p q r t u h = not-done m 14 [] h
+    go true true true false b p q r t u h = not-done m 13 [] h
+    go true true false s b p q r t u h = not-done m 13 [] h
+    go true false f s b p q r t u h = not-done m 12 [] h
+    go false c f s b p q r t u h = not-done m 12 [] h
 
 -- ---- what is left
 

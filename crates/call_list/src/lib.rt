@@ -5,11 +5,11 @@ use edit::Called;
 use refusal::Refusal;
 use store::layout;
 ghost use mathlib.Core.Path.{_≡_};
-ghost use Prim.Native.Nat.{_+_, _/_, _≤_};
+ghost use Prim.Native.Nat.{_+_, _*_, _/_, _≤_};
 ghost use lib.Dec.{leb};
 ghost use lib.ListN.{length, getD};
 ghost use Rattle.refusal.specs.Refusal.{refusalDetails};
-ghost use Rattle.rows.specs.Rows.{pasted};
+ghost use Rattle.rows.specs.Rows.{cut, pasted};
 ghost use Rattle.call_list.specs.Reply.{Replied, noCall, replyWords};
 ghost use Rattle.call_list.specs.Rows.{lineWithin, signalWithin, linksWithin};
 ghost use Rattle.call_list.specs.Ran.{ran, lengthsAnswer};
@@ -144,6 +144,36 @@ pub fn within(len: usize, at: u64, n: u64) -> bool
         return false;
     }
     at <= size - n
+}
+
+// The n numbers of a pool from index at.
+pub fn list_at(pool: &[u64], at: u64, n: u64) -> &[u64]
+    requires { ⌜ at + n ≤ length (now pool) ⌝ }
+    ensures { λ r. ⌜ now r ≡ cut (now (pool .entry)) at n ⌝ }
+{
+    let a = at as usize;
+    let e = a + n as usize;
+    &pool[a..e]
+}
+
+// The n measures of a pool from index at.
+pub fn reals_at(pool: &[f64], at: u64, n: u64) -> &[f64]
+    requires { ⌜ at + n ≤ length (now pool) ⌝ }
+    ensures { λ r. ⌜ now r ≡ cut (now (pool .entry)) at n ⌝ }
+{
+    let a = at as usize;
+    let e = a + n as usize;
+    &pool[a..e]
+}
+
+// Row i of a list of calls.
+pub fn row_at(calls: &[u64], i: usize) -> &[u64]
+    requires { ⌜ i * 26 + 26 ≤ length (now calls) ⌝ }
+    ensures { λ r. ⌜ now r ≡ cut (now (calls .entry)) (i * 26) 26 ⌝ }
+{
+    let a = i * 26;
+    let e = a + 26;
+    &calls[a..e]
 }
 
 // Whether the lists of a stop line's row lie within their pools.
