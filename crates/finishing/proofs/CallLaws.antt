@@ -18,6 +18,7 @@ use Rattle.map.specs.Record.{Map}
 use Rattle.map.specs.Ceilings.{withinCeilings}
 use Rattle.map.specs.MapFile.{isMap}
 use Rattle.map.specs.Tables.{mapOf, isMapTables}
+use Rattle.map.proofs.SoundLaws.{Sound, sound}
 use Rattle.changes.specs.declared.Tally.{Tally}
 use Rattle.changes.specs.ChangeSet.{ChangeSet, normalize, foldStep, tallyOf}
 use Rattle.changes.specs.ChangeFile.{listsOk}
@@ -26,11 +27,12 @@ use Rattle.changes.specs.Running.{State, foldOk, foldFits}
 use Rattle.placing.specs.declared.Checked.{Checked}
 use Rattle.placing.specs.declared.Checked.the-variants as k
 use Rattle.placing.specs.Answers.{checked}
+use Rattle.edit.specs.declared.Called.{Called}
 use Rattle.edit.specs.declared.Called.the-variants as c
 use Rattle.edit.specs.Edit.{Draft, Outcome, finish, call}
 use Rattle.edit.specs.Lent.{Lent, stateOf, lentCall, answered, isRefused, CallLeft}
 use Rattle.finishing.proofs.FreshLaws.{FoldBelow, fold-below}
-use Rattle.finishing.specs.Finish.{lentChecks, planned, settled, steps, FoldSettled}
+use Rattle.finishing.specs.Finish.{lentChecks, planned, settled, steps, CallEnds, FoldSettled}
 
 -- what a call that is carried out answers
 abbrev pub outcomeOf : State → Draft → Outcome
@@ -91,6 +93,8 @@ tables-map ws cs h = search parts
 pub record LentFine (l : Lent) : Type 0 where
   pub tables : isMapTables (l .words) (l .coords) ≡ true
   pub fold : listsOkIn (l .fold) ≡ true
+  pub sound : Sound (l .words) (l .coords)
+  pub fold-size : length (l .fold) ≡ setWords
   pub set : length (l .set) ≡ setWords
   pub below : FoldBelow (mapOf (l .words) (l .coords) .next) (changeSetOf (l .fold))
 
@@ -101,6 +105,8 @@ lent-fine l h =
     let b = a .1 in
     record {
       tables = a .0;
+      sound = sound (l .words) (l .coords) (a .0);
+      fold-size = eqb-true (length (l .fold)) setWords (search parts);
       fold = and-i (eqb (length (l .fold)) setWords) (listsOk (changeSetOf (l .fold))) (search parts) (search parts);
       set = eqb-true (length (l .set)) setWords (search parts);
       below = fold-below (stateOf l) (search parts) (search parts);
@@ -140,10 +146,11 @@ module _ (edit : Map → Answer Draft) (l : Lent) where
       unfolding steps
       carried-out h = rw (fine, plan, h)
 
-  -- ---- and what it leaves
+  -- ---- and what it leaves: r and u are the answer and the tally of the code
 
-  pub call-refused : (x : Refusal) → steps edit l ≡ refusedAs x → (new : Lent) → new ≡ l → CallLeft (call edit) l (c.Refused x) new
-  call-refused x h new e = record { answer = sym (call-is ∙ rw h); kept = λ _. e }
+  pub call-refused : (x : Refusal) → steps edit l ≡ refusedAs x → (f′ : List ℕ) → f′ ≡ l .fold → (r : Called) (u : Tally) → (r ≡ c.Refused x) × (u ≡ l .tally)
+      → CallLeft (call edit) l r (record { words = l .words; coords = l .coords; fold = f′; tally = u; set = l .set })
+  call-refused x h f′ ef r u e = rw (ef, e .0, e .1) (record { answer = sym (call-is ∙ rw h); kept = λ _. refl })
 
   call-done : (d : Draft) → steps edit l ≡ done d → (new : Lent) (n : ℕ) → mapOf (new .words) (new .coords) ≡ d .map
       → changeSetOf (new .fold) ≡ foldStep (changeSetOf (l .fold)) (normalize (d .changes)) → new .tally ≡ tallyOf (changeSetOf (new .fold))
@@ -153,20 +160,25 @@ module _ (edit : Map → Answer Draft) (l : Lent) where
     kept = λ q. absurd (let y : _≡_ {A = ℕ} 0 1 = cc in omega arith);
   }
 
-  -- ---- the last step: a table t settled. It has the draft's changes, or at least as many, so that the fold fits alike
+-- ---- the last step: a table t settled. It has the draft's changes, or at least as many, so that the fold fits alike
 
-  module _ (fine : lentChecks l ≡ done tt) (d : Draft) (plan : planned edit (mapOf (l .words) (l .coords)) ≡ done d)
-      (t : List ℕ) (late : Bool) (el : late ≡ leb (2 ^ 64) (d .map .next)) (r : Checked) (f′ t′ : List ℕ) (h : FoldSettled (l .fold) t late r f′ t′) where
-    pub last-refused : foldFits (foldStep (changeSetOf (l .fold)) (normalize (changeSetOf t))) ≡ foldFits (foldStep (changeSetOf (l .fold)) (normalize (d .changes))) → (x : Refusal) → r ≡ k.Refused x
-        → CallLeft (call edit) l (c.Refused x) (record { words = l .words; coords = l .coords; fold = f′; tally = l .tally; set = l .set })
-    unfolding settled
-    last-refused q x e = call-refused x (settle-refused fine d plan x (rw (← q, ← el) (sym (h .answer) ∙ ap checked e))) _ (rw (h .kept x e))
+module _ (l : Lent) (fine : lentChecks l ≡ done tt) (d : Draft) (t : List ℕ) (late : Bool) (el : late ≡ leb (2 ^ 64) (d .map .next)) (r : Checked) (f′ t′ : List ℕ) (h : FoldSettled (l .fold) t late r f′ t′) where
+  pub ends-refused : foldFits (foldStep (changeSetOf (l .fold)) (normalize (changeSetOf t))) ≡ foldFits (foldStep (changeSetOf (l .fold)) (normalize (d .changes)))
+      → (x : Refusal) → r ≡ k.Refused x → (a : Called) (u : Tally) → (a ≡ c.Refused x) × (u ≡ l .tally)
+      → CallEnds l d a (record { words = l .words; coords = l .coords; fold = f′; tally = u; set = l .set })
+  unfolding settled
+  ends-refused q x e a u g = record {
+    left = λ edit plan.
+        call-refused edit l x (settle-refused edit l fine d plan x (rw (← q, ← el) (sym (h .answer) ∙ ap checked e))) f′ (h .kept x e) a u g;
+  }
 
-    pub last-done : changeSetOf t ≡ d .changes → r ≡ k.Fine → (ws : List ℕ) (cs : List Float) (tally : Tally) (s : List ℕ) (n : ℕ) → mapOf ws cs ≡ d .map → tally ≡ tallyOf (changeSetOf f′)
-        → changeSetOf s ≡ changeSetOf t′ → n ≡ d .id → CallLeft (call edit) l (c.Done n) (record { words = ws; coords = cs; fold = f′; tally = tally; set = s })
-    last-done et q ws cs tally s n a b e i =
-        call-done d (carried-out fine d plan (rw (← et, ← el) (sym (h .answer) ∙ ap checked q))) (record { words = ws; coords = cs; fold = f′; tally = tally; set = s }) n a
-        (h .fold q ∙ ap (λ (x : ChangeSet). foldStep (changeSetOf (l .fold)) (normalize x)) et) b (e ∙ h .set ∙ ap normalize et) i
+  pub ends-done : changeSetOf t ≡ d .changes → r ≡ k.Fine → (ws : List ℕ) (cs : List Float) (tally : Tally) (s : List ℕ) (n : ℕ) → mapOf ws cs ≡ d .map → tally ≡ tallyOf (changeSetOf f′)
+      → changeSetOf s ≡ changeSetOf t′ → n ≡ d .id → CallEnds l d (c.Done n) (record { words = ws; coords = cs; fold = f′; tally = tally; set = s })
+  ends-done et q ws cs tally s n a b e i = record {
+    left = λ edit plan.
+        call-done edit l d (carried-out edit l fine d plan (rw (← et, ← el) (sym (h .answer) ∙ ap checked q))) (record { words = ws; coords = cs; fold = f′; tally = tally; set = s }) n a
+        (h .fold q ∙ ap (λ (x : ChangeSet). foldStep (changeSetOf (l .fold)) (normalize x)) et) b (e ∙ h .set ∙ ap normalize et) i;
+  }
 
 -- where nothing refuses, numbers are left
 pub not-late : (f t : List ℕ) (late : Bool) (r : Checked) (f′ t′ : List ℕ) → FoldSettled f t late r f′ t′ → r ≡ k.Fine → late ≡ false
@@ -186,6 +198,16 @@ module _ (edit : Map → Answer Draft) (m : Map) where
   edit-refused x h = rw h
 
   module _ (d : Draft) (h : edit m ≡ done d) where
+    -- its two tests, as the code answers them
+    pub plan-tests : (p w : Bool) → every pointOnMap (d .stored) ≡ p → withinCeilings (d .map) ≡ w → planned edit m ≡ ((refuseWhen (not p) 9 [] >> refuseWhen (not w) 10 []) >> done d)
+    unfolding planned
+    plan-tests p w ep ew = rw (h, ep, ew) (go p w)
+      where
+        go : (u v : Bool) → (refuseWhen (not u) 9 [] >> (refuseWhen (not v) 10 [] >> done d)) ≡ ((refuseWhen (not u) 9 [] >> refuseWhen (not v) 10 []) >> done d)
+        go false v = refl
+        go true false = refl
+        go true true = refl
+
     pub plan-off : every pointOnMap (d .stored) ≡ false → planned edit m ≡ refusedAs e.OffTheMap
     unfolding planned
     plan-off p = rw (h, p)

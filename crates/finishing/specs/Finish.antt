@@ -20,8 +20,9 @@ use Rattle.sets.specs.Tables.{Roomy}
 use Rattle.placing.specs.declared.Checked.{Checked}
 use Rattle.placing.specs.declared.Checked.the-variants.{Fine, Refused}
 use Rattle.placing.specs.Answers.{checked}
-use Rattle.edit.specs.Edit.{Draft}
-use Rattle.edit.specs.Lent.{Lent, stateOf}
+use Rattle.edit.specs.declared.Called.{Called}
+use Rattle.edit.specs.Edit.{Draft, call}
+use Rattle.edit.specs.Lent.{Lent, stateOf, CallLeft}
 
 -- ---- the steps
 
@@ -52,6 +53,10 @@ steps edit l = do
   d ← planned edit (mapOf (l .words) (l .coords))
   settled (changeSetOf (l .fold)) (normalize (d .changes)) (leb (2 ^ 64) (d .map .next))
   done d
+
+-- what a call leaves whose draft is d, whichever edit made it
+pub record CallEnds (old : Lent) (d : Draft) (r : Called) (new : Lent) : Type 0 where
+  pub left : (edit : Map → Answer Draft) → planned edit (mapOf (old .words) (old .coords)) ≡ done d → CallLeft (call edit) old r new
 
 -- ---- what the code leaves
 

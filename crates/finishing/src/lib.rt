@@ -12,9 +12,21 @@ ghost use Rattle.placing.specs.Answers.{checked};
 ghost use Rattle.finishing.specs.Finish.{lentChecks, RoomyAll, WarningsCopied, FoldSettled};
 use changes::Tally;
 use changes::layout;
+use edit::Answered;
+use edit::Called;
 use placing::Checked;
 use refusal::Refusal;
 use sets::Folded;
+
+// A call that is refused: the tally is as it was.
+pub fn refused(r: Refusal, tally: Tally) -> Answered
+    ensures { λ a. ⌜ (a .called ≡ Called.Refused r) × (a .tally ≡ tally) ⌝ }
+{
+    Answered {
+        called: Called::Refused(r),
+        tally,
+    }
+}
 
 // What every call tests before all else: 12 for tables that are not a map's, then 13 for a fold that is not the map's or a set that is no table of one.
 pub fn check_lent(words: &[u64], coords: &[f64], fold: &[u64], tally: Tally, set: &[u64]) -> Checked

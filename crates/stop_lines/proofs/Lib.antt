@@ -1,0 +1,5 @@
+pub mod RoomLaws
+pub mod PlanLaws
+pub mod DraftLaws
+pub mod StoringLaws
+pub mod CarryLaws
