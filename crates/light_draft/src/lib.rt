@@ -57,7 +57,7 @@ fn line_number(plan: LinePlan, first: u64) -> LineNumber
     }
 }
 
-fn one_if(b: bool) -> u64
+pub fn one_if(b: bool) -> u64
     ensures { λ r. ⌜ r ≡ oneIf b ⌝ }
 {
     if b {
