@@ -5,11 +5,12 @@ use mathlib.Core.Bool.{Bool, true, false, not, _&&_, cond}
 use mathlib.Core.List.{List, [], _∷_, _++_}
 use native.Mathlib.Omega.{arith}
 use lib.Dec.{ltb, leb, eqb}
+use lib.Ieee.{Float}
 use lib.ListN.{length, take, drop}
 use lib.Seq.{sets, sets-eq}
 use borrow.Author.Tests.{lt-ltb, le-ltb, ltb-false, eq-eqb, eqb-true, leb-true}
 use Rattle.refusal.specs.Answer.{Answer, refused, done, _>>_, refuseWhen}
-use Rattle.refusal.specs.declared.Refusal.the-variants.{BadSet, ShortBuffer}
+use Rattle.refusal.specs.declared.Refusal.the-variants.{BadMap, BadSet, ShortBuffer}
 use Rattle.rows.proofs.Bools.{parts, and-l, and-r, clash}
 use Rattle.codec.specs.Format.{Bytes, Format, _⊗_, only, via}
 use Rattle.codec.proofs.Fits.{list-few}
@@ -23,8 +24,12 @@ use Rattle.changes.specs.Layout.{setWords, countIn, warningsAt, changeSetOf, li
 use Rattle.sets.proofs.TableLaws.{fits-ok}
 use Rattle.set_tests.proofs.SetLaws.{set-parts, length-warnings}
 use Rattle.setfile.specs.SetFile.{Counted}
-use Rattle.files.specs.Files.{putIn, writeChanges}
-use Rattle.files.specs.WriteOut.{written, FileWritten, writeSet, ChangesWritten}
+use Rattle.store.specs.Layout.{allWords, allCoords, Sized}
+use Rattle.map.specs.MapFile.{mapFile, isMap}
+use Rattle.map.specs.Tables.{mapOf, isMapTables}
+use Rattle.map.proofs.SoundLaws.{sound}
+use Rattle.files.specs.Files.{putIn, writeMap, writeChanges}
+use Rattle.files.specs.WriteOut.{written, FileWritten, writeSet, ChangesWritten, writeTables, MapWritten}
 use Rattle.files.specs.declared.Written.{Written}
 use Rattle.files.specs.declared.Written.the-variants as W
 
@@ -64,6 +69,17 @@ module _ (form a b : Bytes) (q : Place) (x : PutAt form a (P.At 0) q b) where
         let k : 0 + length form ≡ length form = omega arith in
         let z : new ≡ form ++ drop (length form) old = y .made 0 n refl m l ∙ (rw k at (sets-eq form old 0 (omega arith))) in
         rw (le-ltb (length old) (length form) (omega arith), z)
+
+    -- the answer of a call that refuses nothing but a short buffer
+    module _ (answer : Answer Bytes) (told : putIn form old ≡ answer) where
+      out-long : length old < 2 ^ 64 → q ≡ P.Fault → FileWritten answer form old (W.Refused ShortBuffer) old
+      out-long l e = record { is = too-long l e ∙ told; left = refl }
+
+      out-short : (n : ℕ) → q ≡ P.At n → length old < n → FileWritten answer form old (W.Refused ShortBuffer) old
+      out-short n e l = record { is = too-short n e l ∙ told; left = refl }
+
+      out-written : (n : ℕ) → q ≡ P.At n → n ≤ length old → (r : Place) (new : Bytes) → PutAt form old (P.At 0) r new → FileWritten answer form old (W.Done n) new
+      out-written n e l r new y = record { is = stands n e l r new y ∙ told; left = sized n e }
 
 -- ---- a change set
 
@@ -110,12 +126,52 @@ module _ (t : List ℕ) (old : Bytes) (p : Bool) (h : p ≡ isSetIn t) where
 
     module _ (a b : Bytes) (q : Place) (x : PutAt (changeFile .write (changeSetOf t)) a (P.At 0) q b) where
       pub set-long : length old < 2 ^ 64 → q ≡ P.Fault → ChangesWritten t old (W.Refused ShortBuffer) old
-      set-long l e = record { is = too-long _ a b q x old l e ∙ told; left = refl }
+      set-long l e = out-long _ a b q x old _ told l e
 
       pub set-short : (n : ℕ) → q ≡ P.At n → length old < n → ChangesWritten t old (W.Refused ShortBuffer) old
-      set-short n e l = record { is = too-short _ a b q x old n e l ∙ told; left = refl }
+      set-short n e l = out-short _ a b q x old _ told n e l
 
       pub set-written : (n : ℕ) → q ≡ P.At n → n ≤ length old → (r : Place) (new : Bytes) → PutAt (changeFile .write (changeSetOf t)) old (P.At 0) r new → ChangesWritten t old (W.Done n) new
-      set-written n e l r new y = record { is = stands _ a b q x old n e l r new y ∙ told; left = sized _ a b q x n e }
+      set-written n e l r new y = out-written _ a b q x old _ told n e l r new y
 
 pub ruleset writing-set = (set-wrong, set-right, set-long, set-short, set-written)
+
+-- ---- a map
+
+module _ (ws : List ℕ) (cs : List Float) (old : Bytes) (p : Bool) (h : p ≡ isMapTables ws cs) where
+  pub map-wrong : not p ≡ true → MapWritten ws cs old (W.Refused BadMap) old
+  unfolding isMapTables writeMap
+  map-wrong n = record { is = go (eqb (length ws) allWords && eqb (length cs) allCoords) (isMap (mapOf ws cs)) p h n; left = refl }
+    where
+      go : (a b q : Bool) → q ≡ (a && b) → not q ≡ true → refused 12 [] ≡ (refuseWhen (not a) 12 [] >> (refuseWhen (not b) 12 [] >> putIn (mapFile .write (mapOf ws cs)) old))
+      go false b q e z = refl
+      go true false q e z = refl
+      go true true true e z = clash z refl
+      go true true false e z = clash refl (sym e)
+
+  module _ (y : not p ≡ false) where
+    map-good : isMapTables ws cs ≡ true
+    map-good = sym h ∙ yes p y
+      where
+        yes : (q : Bool) → not q ≡ false → q ≡ true
+        yes true z = refl
+        yes false z = sym z
+
+    pub map-right : Sized ws cs
+    map-right = sound ws cs map-good .sized
+
+    map-told : putIn (mapFile .write (mapOf ws cs)) old ≡ writeTables ws cs old
+    unfolding isMapTables writeMap
+    map-told = rw (and-l (eqb (length ws) allWords && eqb (length cs) allCoords) _ map-good, and-r (eqb (length ws) allWords && eqb (length cs) allCoords) _ map-good)
+
+    module _ (a b : Bytes) (q : Place) (x : PutAt (mapFile .write (mapOf ws cs)) a (P.At 0) q b) where
+      pub map-long : length old < 2 ^ 64 → q ≡ P.Fault → MapWritten ws cs old (W.Refused ShortBuffer) old
+      map-long l e = out-long _ a b q x old _ map-told l e
+
+      pub map-short : (n : ℕ) → q ≡ P.At n → length old < n → MapWritten ws cs old (W.Refused ShortBuffer) old
+      map-short n e l = out-short _ a b q x old _ map-told n e l
+
+      pub map-written : (n : ℕ) → q ≡ P.At n → n ≤ length old → (r : Place) (new : Bytes) → PutAt (mapFile .write (mapOf ws cs)) old (P.At 0) r new → MapWritten ws cs old (W.Done n) new
+      map-written n e l r new y = out-written _ a b q x old _ map-told n e l r new y
+
+pub ruleset writing-map = (map-wrong, map-right, map-long, map-short, map-written)

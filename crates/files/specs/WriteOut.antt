@@ -1,15 +1,19 @@
 -- What writing a file into a lent buffer leaves.
 use Prim.Native.Nat.{ℕ}
 use mathlib.Core.Path.{_≡_}
-use mathlib.Core.Bool.{not}
+use mathlib.Core.Bool.{not, _&&_}
 use mathlib.Core.List.{List, []}
 use lib.Dec.{eqb}
+use lib.Ieee.{Float}
 use lib.ListN.{length}
 use Rattle.refusal.specs.Answer.{Answer, refused, done, refusedAs, _>>_, refuseWhen}
 use Rattle.codec.specs.Format.{Bytes}
 use Rattle.changes.specs.ChangeFile.{changeFile}
 use Rattle.changes.specs.Layout.{setWords, changeSetOf}
-use Rattle.files.specs.Files.{writeChanges}
+use Rattle.store.specs.Layout.{allWords, allCoords}
+use Rattle.map.specs.MapFile.{mapFile}
+use Rattle.map.specs.Tables.{mapOf}
+use Rattle.files.specs.Files.{writeMap, writeChanges}
 use Rattle.files.specs.declared.Written.{Written}
 use Rattle.files.specs.declared.Written.the-variants as W
 
@@ -33,3 +37,10 @@ writeSet t buffer = refuseWhen (not (eqb (length t) setWords)) 13 [] >> writeCha
 
 abbrev pub ChangesWritten : List ℕ → Bytes → Written → Bytes → Type 0
 ChangesWritten t old r new = FileWritten (writeSet t old) (changeFile .write (changeSetOf t)) old r new
+
+-- slices of other lengths are no tables: 12
+abbrev pub writeTables : List ℕ → List Float → Bytes → Answer Bytes
+writeTables ws cs buffer = refuseWhen (not (eqb (length ws) allWords && eqb (length cs) allCoords)) 12 [] >> writeMap (mapOf ws cs) buffer
+
+abbrev pub MapWritten : List ℕ → List Float → Bytes → Written → Bytes → Type 0
+MapWritten ws cs old r new = FileWritten (writeTables ws cs old) (mapFile .write (mapOf ws cs)) old r new

@@ -7,7 +7,7 @@ ghost use mathlib.Core.Path.{_≡_};
 ghost use Rattle.mapfile.specs.MapBytes.{isMapFile};
 ghost use Rattle.files.specs.ReadInto.{MapReadInto, ChangesReadInto};
 ghost use Rattle.files.specs.OpenInto.{MapOpened};
-ghost use Rattle.files.specs.WriteOut.{ChangesWritten};
+ghost use Rattle.files.specs.WriteOut.{MapWritten, ChangesWritten};
 
 // The tables hold the map, or nothing was altered.
 pub enum MapRead {
@@ -130,5 +130,25 @@ pub fn write_changes(set: &[u64], buffer: &mut [u8]) -> Written
         return Written::Refused(Refusal::ShortBuffer);
     }
     setfile::put_set(buffer, Place::At(0), set);
+    Written::Done(n)
+}
+
+// The map file of the tables, at the beginning of the buffer. Its size is known before the first
+// store.
+pub fn write_map(words: &[u64], coords: &[f64], buffer: &mut [u8]) -> Written
+    ensures { λ r. ⌜ MapWritten (now (words .entry)) (now (coords .entry)) (now (buffer .entry)) r (now (buffer .exit)) ⌝ }
+{
+    if !validity::is_map(words, coords) {
+        return Written::Refused(Refusal::BadMap);
+    }
+    let mut none: [u8; 1] = [0];
+    let size = mapput::put_map(&mut none, Place::At(0), words, coords);
+    let Place::At(n) = size else {
+        return Written::Refused(Refusal::ShortBuffer);
+    };
+    if buffer.len() < n {
+        return Written::Refused(Refusal::ShortBuffer);
+    }
+    mapput::put_map(buffer, Place::At(0), words, coords);
     Written::Done(n)
 }
