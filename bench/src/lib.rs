@@ -1,5 +1,8 @@
 //! The proved functions as other languages call them, and what the drivers share.
 
+pub mod edits;
+pub mod tables;
+
 mod c {
     unsafe extern "C" {
         pub fn square_root_bits(b: u64) -> u64;
