@@ -1,0 +1,2 @@
+pub mod EditLaws
+pub mod CarryLaws
