@@ -122,7 +122,7 @@ module _ (ws : List ℕ) (cs : List Float) (g : ℕ) (j : Joinable (mapOf ws cs)
   its-body : (i : ℕ) → lookup ws 5 g ≡ At i → bodyOf (getD (rowOf ws 5 i) 1 0) (rowOf ws 5 i) (coordsOf cs 5 i) ≡ light (j .signals) (j .line)
   its-body i e = sym (rule-body (rowOf ws 5 i) (coordsOf cs 5 i)) ∙ ap (λ (r : Rule). r .body) (its-rule i e) ∙ j .body
 
-  its-signals : (i : ℕ) → lookup ws 5 g ≡ At i → getD (rowOf ws 5 i) 41 0 ≡ length (j .signals)
+  pub its-signals : (i : ℕ) → lookup ws 5 g ≡ At i → getD (rowOf ws 5 i) 41 0 ≡ length (j .signals)
   its-signals i e =
       body-signals (getD (rowOf ws 5 i) 1 0) (rowOf ws 5 i) (coordsOf cs 5 i) (j .signals) (j .line)
       (body-kind (getD (rowOf ws 5 i) 1 0) (rowOf ws 5 i) (coordsOf cs 5 i) (j .signals) (j .line) (its-body i e)) (its-body i e)
@@ -287,6 +287,14 @@ module _ (ws : List ℕ) (cs : List Float) (ok : isMapTables ws cs ≡ true) (a 
 
 -- ---- the code's plan
 
+-- what is fine is on the map, and was tested for room
+room-tested : (ws lanes : List ℕ) (l : Light) (line housing : Line) (b : Bulbs) (e : Entries) (r : Checked) → Fitted ws lanes l line housing b e r → r ≡ Fine → RoomTested ws lanes l line housing b e Fine
+room-tested ws lanes l line housing b e r h f = go (onMap (l .drawn) (pointsOf line) (pointsOf housing) (bulbsOnMap b)) refl
+  where
+    go : (t : Bool) → onMap (l .drawn) (pointsOf line) (pointsOf housing) (bulbsOnMap b) ≡ t → RoomTested ws lanes l line housing b e Fine
+    go true k = rw f at (h .on k)
+    go false k = let z = h .off k in absurd (let y : _≡_ {A = ℕ} 0 1 = cc in omega arith)
+
 module _ (ws : List ℕ) (cs : List Float) (ok : isMapTables ws cs ≡ true) (q : SignalRequest) (lanes : List ℕ) (points given : List Float) (lp : LightPlan)
     (hp : LightPlanned lanes (lightPlan (newTrafficSignal lanes q points given) (mapOf ws cs)) lp) (l : Light) (b : Bulbs) (e : Entries) where
   abbrev all : SignalPlan
@@ -325,5 +333,6 @@ module _ (ws : List ℕ) (cs : List Float) (ok : isMapTables ws cs ≡ true) (q 
         lamps = hb;
         group = λ g eg. group-light (newTrafficSignal lanes q points given) (mapOf ws cs) (plannedIn lanes all) hl g eg;
         joined-lanes = hj;
+        tested = room-tested ws lanes l (lp .line) (lp .housing) b e r hf f;
       };
     }

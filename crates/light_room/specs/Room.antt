@@ -104,6 +104,7 @@ pub record SignalReady (ws : List ℕ) (cs : List Float) (q : SignalRequest) (a 
   pub lamps : BulbsRead q (pointsOf (p .housing)) (p .bulbs)
   pub group : (g : ℕ) → a .group ≡ some g → Joinable (mapOf ws cs) g
   pub joined-lanes : JoinedFor ws (p .light .joins) (p .light .rule) (a .lanes) (p .joined)
+  pub tested : RoomTested ws (a .lanes) (p .light) (p .line) (p .housing) (p .bulbs) (p .joined) Fine
 
 pub record SignalPlanned (ws : List ℕ) (cs : List Float) (q : SignalRequest) (a : NewTrafficSignal) (p : SignalPlan) : Type 0 where
   pub refused : (x : Refusal) → p .checked ≡ Refused x → planned (lightEdit a) (mapOf ws cs) ≡ refusedAs x
