@@ -163,7 +163,7 @@ fn lifts_if(words: &[u64], b: bool, line: u64, lanes: &[u64], draft: &mut [u64])
     note_lifts(words, line, lanes, draft);
 }
 
-fn both(a: bool, b: bool) -> bool
+pub fn both(a: bool, b: bool) -> bool
     ensures { λ r. ⌜ r ≡ (a && b) ⌝ }
 {
     if a {

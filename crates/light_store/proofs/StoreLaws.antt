@@ -147,7 +147,7 @@ rule-some ws l lanes flag ws′ e f p = record { map = λ cs k. rw e (p .map cs 
 -- ---- all of them
 
 -- a body that is a light's is of kind 1
-body-kind : (k : ℕ) (r : List ℕ) (c : List Float) (signals : List ℕ) (line : Option ℕ) → bodyOf k r c ≡ light signals line → k ≡ 1
+pub body-kind : (k : ℕ) (r : List ℕ) (c : List Float) (signals : List ℕ) (line : Option ℕ) → bodyOf k r c ≡ light signals line → k ≡ 1
 body-kind zero r c signals line e = absurd (let z : _≡_ {A = ℕ} 0 1 = cc in omega arith)
 body-kind (suc zero) r c signals line e = refl
 body-kind (suc (suc zero)) r c signals line e = absurd (let z : _≡_ {A = ℕ} 0 1 = cc in omega arith)
@@ -157,14 +157,14 @@ body-kind (suc (suc (suc (suc (suc zero))))) r c signals line e = absurd (let z 
 body-kind (suc (suc (suc (suc (suc (suc zero)))))) r c signals line e = absurd (let z : _≡_ {A = ℕ} 0 1 = cc in omega arith)
 body-kind (suc (suc (suc (suc (suc (suc (suc k))))))) r c signals line e = absurd (let z : _≡_ {A = ℕ} 0 1 = cc in omega arith)
 
-body-signals : (k : ℕ) (r : List ℕ) (c : List Float) (signals : List ℕ) (line : Option ℕ) → k ≡ 1 → bodyOf k r c ≡ light signals line → getD r 41 0 ≡ length signals
+pub body-signals : (k : ℕ) (r : List ℕ) (c : List Float) (signals : List ℕ) (line : Option ℕ) → k ≡ 1 → bodyOf k r c ≡ light signals line → getD r 41 0 ≡ length signals
 unfolding listAt
 body-signals k r c signals line e h =
     let q : bodyOf 1 r c ≡ light signals line = rw e at h in
     let s : listTo (λ i. getD r (41 + 1 + i) 0) (getD r 41 0) ≡ signals = cc in
     sym (length-listTo (λ i. getD r (41 + 1 + i) 0) (getD r 41 0)) ∙ ap length s
 
-rule-body : (r : List ℕ) (c : List Float) → ruleIn r c .body ≡ bodyOf (getD r 1 0) r c
+pub rule-body : (r : List ℕ) (c : List Float) → ruleIn r c .body ≡ bodyOf (getD r 1 0) r c
 unfolding ruleIn
 rule-body r c = refl
 

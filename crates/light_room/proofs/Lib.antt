@@ -1,0 +1,4 @@
+pub mod ListLaws
+pub mod RoomLaws
+pub mod TestLaws
+pub mod PlanLaws

@@ -1,0 +1,2 @@
+pub mod SignalLaws
+pub mod CarryLaws
