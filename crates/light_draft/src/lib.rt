@@ -187,10 +187,11 @@ pub fn draft_set(
     requires { ⌜ ReadableWords (now words) × (0 < length (now lanes)) × (length (now draft) ≡ setWords) ⌝ }
     ensures { λ _. ⌜ SetDrafted (now (words .entry)) (now (lanes .entry)) l clamped made (now (draft .exit)) ⌝ }
 {
+    let new = !l.joins;
     building::clear(draft);
     push_if(draft, l.drawn, 0, 5, l.line);
     push_if(draft, true, 0, 6, l.signal);
-    push_if(draft, !l.joins, 0, 8, l.rule);
+    push_if(draft, new, 0, 8, l.rule);
     push_if(draft, l.joins, 1, 8, l.rule);
     warn_if(draft, both(l.drawn, clamped), 1, 1, lanes[0]);
     warn_if(draft, made, 3, 0, 0);
