@@ -1,26 +1,24 @@
 -- A light's draft comes to the same in the order of the code: the lifts first, and then the line, the signal and the rule. Assumes nothing.
-use Prim.Native.Nat.{ℕ, suc, _+_, _≤_, _<_, max}
-use mathlib.Core.Path.{_≡_, refl, sym, ap, _∙_}
-use mathlib.Core.Bool.{Bool, true, false, not, _&&_, cond}
+use Prim.Native.Nat.{ℕ, suc, _+_, max}
+use mathlib.Core.Path.{_≡_, refl, ap, _∙_}
+use mathlib.Core.Bool.{Bool, true, false, not, cond}
 use mathlib.Core.Option.{Option, none, some}
 use mathlib.Core.List.{List, [], _∷_, _++_, append-nil}
 use native.Mathlib.Nat.{max-eq-right}
 use native.Mathlib.Omega.{arith}
-use lib.Dec.{eqb, leb}
-use lib.ListN.{length, getD}
+use lib.ListN.{getD}
 use Rattle.refusal.specs.Answer.{Answer, refused, done, _>>=_, _>>_, refuseWhen, present}
-use Rattle.rows.specs.Lists.{every, joined, orElse, noEntries}
+use Rattle.rows.specs.Lists.{every, orElse, noEntries}
 use Rattle.rows.specs.Table.{find, replaced, rising}
-use Rattle.rows.proofs.Bools.{parts}
 use Rattle.rows.proofs.Tables.{found-is}
 use Rattle.map.specs.Record.{RuleBody, light, sign, marking, rightOfWay, crossing, other, Rule, Map}
-use Rattle.map.specs.Entity.{EntityRef, entity}
+use Rattle.map.specs.Entity.{entity}
 use Rattle.map.specs.Lookup.{ruleOf}
 use Rattle.map.specs.Ceilings.{maxRules}
 use Rattle.map.specs.MapFile.{rule, isMap}
 use Rattle.map.specs.Rows.{fresh, withLine, withSignal, withRule, withRules, ruleWith}
-use Rattle.map.proofs.Parts.{Parts, map-parts, table-rises}
-use Rattle.changes.specs.ChangeSet.{ChangeSet, Warning, warning}
+use Rattle.map.proofs.Parts.{map-parts, table-rises}
+use Rattle.changes.specs.ChangeSet.{ChangeSet, warning}
 use Rattle.place.specs.Place.{Placed, checkLaneList}
 use Rattle.edit.specs.Light.{NewTrafficSignal, Plan, use-line, use-none, draw, Planned, Drawing, badHeight, checkHousing, checkChoice, planFor, anchorFor, housingFor, lightLine, groupLine, lineDrawn, signalDrawn, grouped, extended, joinedLanes, groupRule, lift, kept, easedRef, goneRef, liftWarning, liftAll, newSignal, lightPlan, lightDraft}
 use Rattle.centerline.specs.declared.Line.{Line}
@@ -31,7 +29,7 @@ use Rattle.lighting.specs.Housing.{housingOf}
 use Rattle.lighting.specs.Plan.{planOf, drawnOf}
 use Rattle.lifting.specs.Lifting.{liftedRules}
 use Rattle.lifting.proofs.OrderLaws.{light-kept, none-eased, none-gone, none-warned, lifted-push, notes-push, alone, found-alone, lifted-replaced, notes-replaced}
-use Rattle.light_draft.specs.Drafting.{Joinable, lineFor, spent, numbersFor, lightSet, notes, liftedFirst, withPlan, groupWith, withLight, storedMap}
+use Rattle.light_draft.specs.Drafting.{Joinable, numbersFor, lightSet, notes, liftedFirst, withPlan, groupWith, withLight, storedMap}
 
 -- ---- the last two steps, whatever was drawn before
 

@@ -1,28 +1,23 @@
 -- The steps of a light's numbers and of its change set. Assumes nothing.
-use Prim.Native.Nat.{ℕ, zero, suc, _+_, _-_, _^_, _≤_, _<_, max}
-use mathlib.Core.Path.{_≡_, refl, sym, ap, _∙_}
-use mathlib.Core.Bool.{Bool, true, false, not, _&&_, cond}
+use Prim.Native.Nat.{_-_, ℕ, zero, suc, _+_, _^_, _≤_, _<_, max}
+use mathlib.Core.Path.{_≡_, refl, _∙_}
+use mathlib.Core.Bool.{Bool, true, false, not, _&&_}
 use mathlib.Core.Option.{Option, none, some}
-use mathlib.Core.List.{List, [], _∷_, _++_, append-nil}
+use mathlib.Core.List.{List, [], _∷_, append-nil}
 use native.Mathlib.Omega.{arith}
 use borrow.Author.Tests.{le-leb, lt-leb, eqb-true, eqb-false}
-use lib.Dec.{eqb, leb}
-use lib.Ieee.{Float}
-use lib.ListN.{length, getD}
+use lib.Dec.{eqb}
+use lib.ListN.{getD}
 use Rattle.map.specs.Entity.{EntityRef, entity}
-use Rattle.map.specs.Record.{Rule}
-use Rattle.map.specs.Tables.{mapOf}
-use Rattle.changes.specs.ChangeSet.{ChangeSet, Warning, warning, noChanges}
-use Rattle.changes.specs.Layout.{countIn, aboutOf, changeSetOf}
+use Rattle.changes.specs.ChangeSet.{ChangeSet}
+use Rattle.changes.specs.Layout.{countIn, changeSetOf}
 use Rattle.sets.specs.Tables.{Roomy}
 use Rattle.building.specs.Build.{withEntry, Cleared, EntryAdded, WarningAdded}
-use Rattle.finishing.specs.Finish.{RoomyAll}
-use Rattle.edit.specs.Light.{easedRef, goneRef, liftWarning}
 use Rattle.lighting.specs.declared.LinePlan.{LinePlan}
-use Rattle.lifting.specs.Noting.{AllFit, LiftsNoted, withNotes}
+use Rattle.lifting.specs.Noting.{AllFit, LiftsNoted}
 use Rattle.light_draft.specs.declared.LineNumber.{LineNumber}
 use Rattle.light_draft.specs.declared.Light.{Light}
-use Rattle.light_draft.specs.Drafting.{lineFor, oneIf, lateOf, LineNumbered, NumbersMade, LightNumbered, notes, lightSet, withEntries, withWarnings, PushAsks, PushedIf, WarnAsks, WarnedIf, NotedIf, SetDrafted}
+use Rattle.light_draft.specs.Drafting.{oneIf, lateOf, LineNumbered, NumbersMade, LightNumbered, lightSet, withEntries, PushAsks, PushedIf, WarnAsks, WarnedIf, NotedIf, SetDrafted}
 
 -- ---- numbers
 

@@ -6,10 +6,10 @@ use mathlib.Core.Option.{Option, none, some}
 use mathlib.Core.List.{List, [], _∷_, _++_}
 use lib.Dec.{leb}
 use lib.Ieee.{Float}
-use lib.ListN.{length, getD}
+use lib.ListN.{getD}
 use Rattle.rows.specs.Lists.{joined}
 use Rattle.rows.specs.Table.{replaced}
-use Rattle.map.specs.Record.{RuleBody, light, Rule, Map}
+use Rattle.map.specs.Record.{light, Rule, Map}
 use Rattle.map.specs.Entity.{EntityRef, entity}
 use Rattle.map.specs.Lookup.{ruleOf}
 use Rattle.map.specs.Rows.{fresh, withLine, withSignal, withRule, withRules, ruleWith}

@@ -4,7 +4,7 @@ use lighting::LinePlan;
 use map::update;
 use placing::MaybeNumber;
 ghost use mathlib.Core.Path.{_≡_};
-ghost use mathlib.Core.Bool.{_&&_};
+ghost use mathlib.Core.Bool.{true, _&&_};
 ghost use mathlib.Core.Option.{none, some};
 ghost use Prim.Native.Nat.{_<_};
 ghost use lib.ListN.{length};
@@ -35,25 +35,28 @@ pub struct Light {
     pub late: bool,
 }
 
+fn at_line(line: u64, drawn: bool) -> LineNumber
+    ensures { λ r. ⌜ r ≡ record { «has_line» = true; line = line; drawn = drawn } ⌝ }
+{
+    LineNumber {
+        has_line: true,
+        line,
+        drawn,
+    }
+}
+
+// The line that a plan leads to. A new one gets the first number.
 fn line_number(plan: LinePlan, first: u64) -> LineNumber
     ensures { λ r. ⌜ LineNumbered plan first r ⌝ }
 {
     match plan {
-        LinePlan::Use(s) => LineNumber {
-            has_line: true,
-            line: s,
-            drawn: false,
-        },
+        LinePlan::Use(s) => at_line(s, false),
         LinePlan::NoLine => LineNumber {
             has_line: false,
             line: 0,
             drawn: false,
         },
-        LinePlan::Draw(_) => LineNumber {
-            has_line: true,
-            line: first,
-            drawn: true,
-        },
+        LinePlan::Draw(_) => at_line(first, true),
     }
 }
 
@@ -184,10 +187,11 @@ pub fn draft_set(
     requires { ⌜ ReadableWords (now words) × (0 < length (now lanes)) × (length (now draft) ≡ setWords) ⌝ }
     ensures { λ _. ⌜ SetDrafted (now (words .entry)) (now (lanes .entry)) l clamped made (now (draft .exit)) ⌝ }
 {
+    let new = !l.joins;
     building::clear(draft);
     push_if(draft, l.drawn, 0, 5, l.line);
     push_if(draft, true, 0, 6, l.signal);
-    push_if(draft, !l.joins, 0, 8, l.rule);
+    push_if(draft, new, 0, 8, l.rule);
     push_if(draft, l.joins, 1, 8, l.rule);
     warn_if(draft, both(l.drawn, clamped), 1, 1, lanes[0]);
     warn_if(draft, made, 3, 0, 0);

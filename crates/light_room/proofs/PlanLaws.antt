@@ -1,22 +1,22 @@
 -- A light's plan: its refusals in their order, and what storing it asks for. Assumes nothing.
-use Prim.Native.Nat.{ℕ, suc, _+_, _≤_, _<_, max}
+use Prim.Native.Nat.{ℕ, suc, _+_, _≤_, max}
 use mathlib.Core.Path.{_≡_, refl, sym, ap, _∙_}
 use mathlib.Core.Bool.{Bool, true, false, not, _&&_, cond, and-assoc}
 use mathlib.Core.Option.{Option, none, some}
-use mathlib.Core.List.{List, [], _∷_, _++_, map}
+use mathlib.Core.List.{List, _++_, map}
 use native.Mathlib.Nat.{max-eq-right}
 use native.Mathlib.Omega.{arith}
 use borrow.Author.Tests.{leb-true, leb-false, le-leb, lt-leb, ltb-true, lt-ltb}
 use lib.Dec.{leb, ltb}
 use lib.Ieee.{Float}
 use lib.ListN.{length, getD, take, length-take}
-use Rattle.refusal.specs.Answer.{Answer, refused, done, refusedAs, _>>=_, _>>_, refuseWhen}
+use Rattle.refusal.specs.Answer.{Answer, refused, done, refusedAs, _>>_}
 use Rattle.refusal.specs.declared.Refusal.{Refusal}
 use Rattle.rows.specs.Lists.{every, total}
 use Rattle.rows.proofs.Bools.{agree}
 use Rattle.rows.proofs.Indexed.{length-listTo}
 use Rattle.geometry.specs.Point.{pointOnMap}
-use Rattle.geometry.specs.Polyline.{Polyline, pointIn}
+use Rattle.geometry.specs.Polyline.{pointIn}
 use Rattle.centerline.specs.declared.Line.{Line}
 use Rattle.centerline.specs.Line.{pointsOf}
 use Rattle.store.specs.Layout.{countOf, nextOf, rowOf, coordsOf}
@@ -28,13 +28,12 @@ use Rattle.map.specs.declared.Found.the-variants.{At, Nothing}
 use Rattle.map.specs.Ceilings.{rulePoints, points, withinCeilings}
 use Rattle.map.specs.MapFile.{isMap}
 use Rattle.map.specs.Record.{Bulb, light, Signal, Rule, Map}
-use Rattle.map.specs.Rows.{fresh, withLine, withSignal, withRules}
+use Rattle.map.specs.Rows.{fresh, withLine, withSignal}
 use Rattle.map.specs.Lookup.{ruleOf}
 use Rattle.map.specs.Tables.{listAt, bodyOf, ruleIn, mapOf, isMapTables}
 use Rattle.map.specs.Access.{lookup}
 use Rattle.map.proofs.ReadLaws.{rule-found, no-rule}
 use Rattle.map.proofs.SoundLaws.{sound}
-use Rattle.place.specs.Place.{Placed}
 use Rattle.place.specs.Values.{Roomy}
 use Rattle.placing.specs.declared.Checked.{Checked}
 use Rattle.placing.specs.declared.Checked.the-variants.{Fine, Refused}
@@ -42,7 +41,7 @@ use Rattle.placing.specs.Answers.{checked, maybeNumber}
 use Rattle.edit.specs.Request.{newTrafficSignal}
 use Rattle.edit.specs.declared.Bulbs.{Bulbs}
 use Rattle.edit.specs.declared.SignalRequest.{SignalRequest}
-use Rattle.edit.specs.Light.{NewTrafficSignal, Plan, use-line, use-none, draw, Planned, lineDrawn, planPoints, positions, joinedLanes, groupRule, bulbsOf, newSignal, lightPlan, lightDraft, lightEdit}
+use Rattle.edit.specs.Light.{NewTrafficSignal, lineDrawn, planPoints, positions, joinedLanes, groupRule, bulbsOf, newSignal, lightPlan, lightDraft, lightEdit}
 use Rattle.finishing.specs.Finish.{planned}
 use Rattle.finishing.proofs.CallLaws.{edit-refused, plan-off, plan-tests}
 use Rattle.finishing.proofs.CeilingLaws.{every-join}
@@ -55,12 +54,12 @@ use Rattle.signal_row.specs.Row.{storedBulbs, BulbsRead, bulbsOnMap}
 use Rattle.signal_row.proofs.StoredLaws.{stored-count}
 use Rattle.grouping.specs.Group.{JoinedRead}
 use Rattle.light_draft.specs.declared.Light.{Light}
-use Rattle.light_draft.specs.Drafting.{lineFor, oneIf, ruleNumber, joins, lateFor, numbersFor, LightNumbered, lineIn, liftedFirst, withPlan, withLight, storedMap, Joinable}
+use Rattle.light_draft.specs.Drafting.{lineFor, oneIf, ruleNumber, joins, numbersFor, LightNumbered, lineIn, liftedFirst, withPlan, withLight, storedMap, Joinable}
 use Rattle.light_draft.proofs.DraftLaws.{group-light, map-order}
 use Rattle.light_store.specs.Storing.{groupIn, lightMap}
 use Rattle.light_store.proofs.StoreLaws.{lines-are, signals-are, rules-are, body-kind, body-signals, rule-body}
 use Rattle.light_room.specs.declared.SignalPlan.{SignalPlan}
-use Rattle.light_room.specs.Room.{onMap, FreedRead, JoinedFor, ListsFit, roomFor, RoomTested, Fitted, PlanRefused, plannedIn, signalDraft, SignalReady, SignalPlanned}
+use Rattle.light_room.specs.Room.{onMap, JoinedFor, roomFor, RoomTested, Fitted, PlanRefused, plannedIn, signalDraft, SignalPlanned}
 use Rattle.light_room.proofs.RoomLaws as R
 
 pub points-count : (l : Line) → length (pointsOf l) ≡ l .count

@@ -1,21 +1,21 @@
 -- The map that a light leaves keeps below the ceilings exactly where there is room for it. Assumes nothing.
-use Prim.Native.Nat.{ℕ, suc, _+_, _≤_, _<_}
+use Prim.Native.Nat.{ℕ, _+_, _≤_}
 use mathlib.Core.Path.{_≡_, refl, sym, ap, _∙_}
 use mathlib.Core.Bool.{Bool, true, false, not, _&&_, cond}
 use mathlib.Core.Option.{Option, none, some}
 use mathlib.Core.List.{List, [], _∷_, _++_, append-nil}
 use native.Mathlib.Omega.{arith}
 use borrow.Author.Tests.{leb-true, le-leb}
-use lib.Dec.{leb, ltb}
+use lib.Dec.{leb}
 use lib.ListN.{length, length-append}
-use Rattle.rows.specs.Lists.{every, total, orElse, noEntries}
-use Rattle.rows.specs.Table.{find, replaced, rising}
+use Rattle.rows.specs.Lists.{every, total}
+use Rattle.rows.specs.Table.{find, replaced}
 use Rattle.rows.proofs.Bools.{agree}
 use Rattle.geometry.specs.Polyline.{Polyline}
-use Rattle.map.specs.Ceilings.{maxStopLines, maxSignals, maxRules, maxPoints, lineWithin, lineStringWithin, signalWithin, bodyWithin, ruleWithin, lineStringPoints, signalPoints, bodyPoints, rulePoints, points, withinCeilings}
+use Rattle.map.specs.Ceilings.{lineWithin, lineStringWithin, signalWithin, bodyWithin, ruleWithin, lineStringPoints, signalPoints, bodyPoints, rulePoints, points, withinCeilings}
 use Rattle.map.specs.MapFile.{isMap}
 use Rattle.map.specs.Record.{LineString, light, Signal, Rule, Map}
-use Rattle.map.specs.Rows.{fresh, withLine, withSignal, withRule, withRules, ruleWith}
+use Rattle.map.specs.Rows.{fresh, withLine, withSignal}
 use Rattle.map.specs.Lookup.{ruleOf}
 use Rattle.map.proofs.Parts.{rules-within}
 use Rattle.edit.specs.Light.{extended, joinedLanes}

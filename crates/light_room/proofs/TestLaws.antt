@@ -9,9 +9,8 @@ use borrow.Author.Tests.{leb-true}
 use lib.Dec.{leb, ltb}
 use lib.Ieee.{Float}
 use lib.ListN.{length, getD, take}
-use Rattle.refusal.specs.Answer.{done, refusedAs, _>>_, refuseWhen}
 use Rattle.refusal.specs.declared.Refusal.the-variants.{OffTheMap, Full}
-use Rattle.rows.specs.Lists.{every, total}
+use Rattle.rows.specs.Lists.{every}
 use Rattle.geometry.specs.Point.{pointOnMap}
 use Rattle.geometry.specs.Polyline.{Polyline, polylineOf}
 use Rattle.centerline.specs.declared.Line.{Line}
@@ -22,7 +21,7 @@ use Rattle.validity.proofs.Whole.{points-are}
 use Rattle.map.specs.declared.Entries.{Entries}
 use Rattle.map.specs.declared.Found.{Found}
 use Rattle.map.specs.declared.Found.the-variants.{At, Nothing}
-use Rattle.map.specs.Ceilings.{points, rulePoints}
+use Rattle.map.specs.Ceilings.{points}
 use Rattle.map.specs.Tables.{listAt, ruleIn, mapOf, isMapTables}
 use Rattle.map.proofs.Parts.{map-parts}
 use Rattle.map.proofs.SoundLaws.{sound}
@@ -33,7 +32,6 @@ use Rattle.map.proofs.UpdateLaws.{rule-wide, rule-limit}
 use Rattle.place.specs.Readable.{ReadableWords}
 use Rattle.place.specs.Values.{Roomy}
 use Rattle.place.proofs.LineLaws.{line-part, part-long}
-use Rattle.placing.specs.declared.Checked.{Checked}
 use Rattle.placing.specs.declared.Checked.the-variants.{Fine, Refused}
 use Rattle.edit.specs.declared.Bulbs.{Bulbs}
 use Rattle.lifting.specs.declared.Freed.{Freed}
@@ -43,7 +41,7 @@ use Rattle.grouping.specs.Group.{JoinedRead}
 use Rattle.light_draft.specs.declared.Light.{Light}
 use Rattle.light_draft.specs.Drafting.{oneIf, lineIn, liftedFirst}
 use Rattle.light_store.proofs.StoreLaws.{rules-are}
-use Rattle.light_room.specs.Room.{onMap, FreedRead, JoinedFor, ListsFit, countsFit, roomFor, RoomTested, Fitted}
+use Rattle.light_room.specs.Room.{onMap, FreedRead, JoinedFor, ListsFit, countsFit, roomFor, Fitted}
 
 no : {A : Type 0} {b : Bool} → b ≡ true → b ≡ false → A
 no p q = absurd (let z : _≡_ {A = Bool} true false = sym p ∙ q in let y : _≡_ {A = ℕ} 0 1 = cc in omega arith)

@@ -1,13 +1,13 @@
 -- What the tests of a light's room answer, and its plan.
-use Prim.Native.Nat.{ℕ, _+_, _≤_, _<_}
+use Prim.Native.Nat.{ℕ, _+_, _<_}
 use mathlib.Core.Path.{_≡_}
 use mathlib.Core.Bool.{Bool, true, false, not, _&&_, cond}
-use mathlib.Core.Option.{Option, none, some}
-use mathlib.Core.List.{List, [], _∷_}
+use mathlib.Core.Option.{Option, some}
+use mathlib.Core.List.{List, []}
 use lib.Dec.{leb, ltb}
 use lib.Ieee.{Float}
 use lib.ListN.{length, getD}
-use Rattle.refusal.specs.Answer.{Answer, done, refusedAs, _>>_, refuseWhen}
+use Rattle.refusal.specs.Answer.{done, refusedAs, refuseWhen}
 use Rattle.refusal.specs.declared.Refusal.{Refusal}
 use Rattle.refusal.specs.declared.Refusal.the-variants.{OffTheMap}
 use Rattle.rows.specs.Lists.{every, total}

@@ -4,14 +4,12 @@ pub mod tests; // tests.rt: whether it is on the map, and whether there is room
 use centerline::Line;
 use edit::Bulbs;
 use edit::SignalRequest;
-use lifting::Freed;
 use light_draft::Light;
 use light_draft::light_of;
 use lighting::LinePlan;
 use lighting::plan::light_plan;
 use map::Entries;
 use placing::Checked;
-use placing::MaybeNumber;
 use refusal::Refusal;
 use signal_row::bulbs_of;
 ghost use mathlib.Core.Path.{_≡_};

@@ -1,21 +1,20 @@
 -- The steps of storing a light, and all of them. Assumes nothing.
-use Prim.Native.Nat.{ℕ, zero, suc, _+_, _-_, _*_, _/_, _^_, _≤_, _<_, max}
+use Prim.Native.Nat.{_-_, ℕ, zero, suc, _+_, _/_, _^_, _≤_, _<_, max}
 use mathlib.Core.Path.{_≡_, refl, sym, ap, _∙_}
 use mathlib.Core.Bool.{Bool, true, false, not, cond}
 use mathlib.Core.Option.{Option, none, some}
 use mathlib.Core.List.{List, [], _∷_}
 use native.Mathlib.Nat.{max-eq-right, le-max-right}
 use native.Mathlib.Omega.{arith}
-use lib.Dec.{eqb}
 use lib.Ieee.{Float}
-use lib.ListN.{length, getD, take, length-take}
+use lib.ListN.{length, getD, length-take}
 use Rattle.rows.specs.Lists.{listTo}
 use Rattle.rows.specs.Table.{rising, replaced}
 use Rattle.rows.proofs.Indexed.{length-listTo}
 use Rattle.geometry.specs.Polyline.{Polyline}
 use Rattle.centerline.specs.declared.Line.{Line}
 use Rattle.centerline.specs.Line.{pointsOf}
-use Rattle.store.specs.Layout.{SizedWords, Sized, limitOf, countOf, nextOf, rowOf, coordsOf, allCoords, recordsOf}
+use Rattle.store.specs.Layout.{Sized, countOf, nextOf, rowOf, coordsOf}
 use Rattle.store.proofs.StoreLaws.{length-records}
 use Rattle.map.specs.declared.Entries.{Entries}
 use Rattle.map.specs.declared.Found.{Found}
@@ -32,15 +31,13 @@ use Rattle.place.specs.Values.{Roomy}
 use Rattle.place.proofs.LineLaws.{line-part}
 use Rattle.placing.specs.declared.MaybeNumber.{MaybeNumber}
 use Rattle.placing.specs.Answers.{maybeNumber}
-use Rattle.edit.specs.Light.{joinedLanes}
 use Rattle.lifting.specs.Applying.{LiftsApplied}
 use Rattle.lifting.specs.Lifting.{entriesOf}
 use Rattle.signal_row.specs.declared.SignalRow.{SignalRow}
 use Rattle.grouping.specs.Group.{joinedRule, GroupPut}
 use Rattle.grouping.proofs.JoinLaws.{group-replaced}
 use Rattle.light_draft.specs.declared.Light.{Light}
-use Rattle.light_draft.specs.Drafting.{oneIf, lineIn, liftedFirst, groupWith, withLight, Joinable}
-use Rattle.light_draft.proofs.DraftLaws.{group-number}
+use Rattle.light_draft.specs.Drafting.{oneIf, lineIn, liftedFirst, groupWith, withLight}
 use Rattle.light_store.specs.Storing.{LiftStored, lineMaybe, RowReady, GroupStored, LineAsks, LineStored, coordsIn, SignalAsks, SignalStored, RuleAsks, RuleStored, GroupAsks, StoreAsks, groupIn, lightMap, LightStored}
 use Rattle.light_store.proofs.LiftedLaws.{first-rises, first-found}
 

@@ -1,12 +1,12 @@
 -- What storing a light asks for and leaves, step by step.
-use Prim.Native.Nat.{ℕ, _+_, _-_, _*_, _^_, _≤_, _<_, max}
+use Prim.Native.Nat.{_-_, ℕ, _+_, _*_, _^_, _≤_, _<_, max}
 use mathlib.Core.Path.{_≡_}
 use mathlib.Core.Bool.{Bool, true, false, not, cond}
-use mathlib.Core.Option.{Option, none, some}
+use mathlib.Core.Option.{Option, none}
 use mathlib.Core.List.{List, [], _∷_}
 use lib.Ieee.{Float}
 use lib.ListN.{length, getD, take}
-use Rattle.rows.specs.Table.{rising, replaced}
+use Rattle.rows.specs.Table.{rising}
 use Rattle.geometry.specs.Polyline.{Polyline}
 use Rattle.centerline.specs.declared.Line.{Line}
 use Rattle.centerline.specs.Line.{pointsOf}
@@ -14,7 +14,7 @@ use Rattle.store.specs.Layout.{SizedWords, Sized, countOf, nextOf, rowOf, allCo
 use Rattle.map.specs.declared.Entries.{Entries}
 use Rattle.map.specs.declared.Found.the-variants.{At, Nothing}
 use Rattle.map.specs.Record.{light, Signal, Rule, Map}
-use Rattle.map.specs.Rows.{withLine, withSignal, withRule, withRules}
+use Rattle.map.specs.Rows.{withLine, withSignal, withRule}
 use Rattle.map.specs.Lookup.{ruleOf}
 use Rattle.map.specs.Tables.{mapOf}
 use Rattle.map.specs.Access.{lookup}
@@ -28,7 +28,7 @@ use Rattle.lifting.specs.Lifting.{entriesOf}
 use Rattle.signal_row.specs.declared.SignalRow.{SignalRow}
 use Rattle.grouping.specs.Group.{GroupPut}
 use Rattle.light_draft.specs.declared.Light.{Light}
-use Rattle.light_draft.specs.Drafting.{oneIf, lineIn, liftedFirst, groupWith, withLight, Joinable}
+use Rattle.light_draft.specs.Drafting.{oneIf, lineIn, liftedFirst, withLight, Joinable}
 
 -- ---- the steps
 

@@ -1,24 +1,22 @@
 -- The steps of the call, joined. Assumes nothing.
-use Prim.Native.Nat.{ℕ, suc, _+_, _-_, _^_, _≤_, _<_, max}
+use Prim.Native.Nat.{_-_, ℕ, _+_, _^_, _≤_, _<_, max}
 use mathlib.Core.Path.{_≡_, refl, sym, ap, _∙_, subst}
 use mathlib.Core.Bool.{Bool, true, false, not, _&&_, cond}
 use mathlib.Core.Option.{Option, none, some}
-use mathlib.Core.List.{List, [], _∷_}
+use mathlib.Core.List.{List, []}
 use native.Mathlib.Omega.{arith}
 use borrow.Author.Tests.{leb-true, leb-false, ltb-true}
 use lib.Dec.{leb, ltb}
 use lib.Ieee.{Float}
-use lib.ListN.{length, getD, take}
-use Rattle.refusal.specs.Answer.{Answer, done, refusedAs, refuseWhen}
+use lib.ListN.{length, getD}
+use Rattle.refusal.specs.Answer.{done, refuseWhen}
 use Rattle.refusal.specs.declared.Refusal.{Refusal}
 use Rattle.rows.proofs.Bools.{parts}
 use Rattle.centerline.specs.Line.{pointsOf}
 use Rattle.store.specs.Layout.{countOf, nextOf, rowOf}
 use Rattle.row_tests.specs.Flat.{allPoints}
 use Rattle.map.specs.declared.Found.the-variants.{At}
-use Rattle.map.specs.Record.{Rule, Map}
-use Rattle.map.specs.MapFile.{isMap}
-use Rattle.map.specs.Rows.{fresh}
+use Rattle.map.specs.Record.{Map}
 use Rattle.map.specs.Tables.{mapOf, isMapTables}
 use Rattle.map.proofs.SoundLaws.{sound}
 use Rattle.map.specs.Access.{lookup}
@@ -36,17 +34,17 @@ use Rattle.edit.specs.declared.Called.the-variants as c
 use Rattle.edit.specs.declared.SignalRequest.{SignalRequest}
 use Rattle.edit.specs.Edit.{Draft, call}
 use Rattle.edit.specs.Lent.{Lent, CallLeft}
-use Rattle.edit.specs.Light.{NewTrafficSignal, joinedLanes, newSignal, lightEdit, addTrafficSignal}
+use Rattle.edit.specs.Light.{NewTrafficSignal, newSignal, lightEdit, addTrafficSignal}
 use Rattle.edit.specs.Request.{newTrafficSignal}
-use Rattle.finishing.specs.Finish.{lentChecks, planned, FoldSettled, CallEnds}
+use Rattle.finishing.specs.Finish.{lentChecks, FoldSettled, CallEnds}
 use Rattle.finishing.proofs.CallLaws.{LentFine, lent-fine, lent-refused, plan-refused, call-refused, ends-refused, ends-done, not-late}
 use Rattle.light_draft.specs.declared.Light.{Light}
-use Rattle.light_draft.specs.Drafting.{lineFor, oneIf, spent, ruleNumber, joins, lateFor, numbersFor, lineIn, lightSet, SetDrafted, liftedFirst, Joinable}
+use Rattle.light_draft.specs.Drafting.{lineFor, oneIf, ruleNumber, joins, lateFor, numbersFor, lightSet, SetDrafted, Joinable}
 use Rattle.light_draft.proofs.DraftLaws.{rules-rise, changes-are}
 use Rattle.light_store.specs.Storing.{GroupAsks, groupIn, lightMap}
 use Rattle.light_store.proofs.StoreLaws.{rules-are}
 use Rattle.light_room.specs.declared.SignalPlan.{SignalPlan}
-use Rattle.light_room.specs.Room.{countsFit, roomFor, RoomTested, signalDraft, SignalReady, SignalPlanned}
+use Rattle.light_room.specs.Room.{countsFit, roomFor, signalDraft, SignalReady, SignalPlanned}
 use Rattle.light_room.proofs.PlanLaws.{its-signals, at-index, joined-all}
 use Rattle.signals.specs.Signal.{AsksToStore, StoredAs}
 use Rattle.signals.proofs.SignalLaws.{map-is, next-is, id-is, fits-alike, group-below}

@@ -1,69 +1,50 @@
 -- From a light's plan to the whole outcome of its call. Assumes nothing.
-use Prim.Native.Nat.{ℕ, suc, _+_, _-_, _^_, _≤_, _<_, max}
+use Prim.Native.Nat.{ℕ, suc, _+_, _≤_, max}
 use mathlib.Core.Path.{_≡_, refl, sym, ap, _∙_}
-use mathlib.Core.Bool.{Bool, true, false, not, _&&_, cond}
+use mathlib.Core.Bool.{Bool, true, false, not, cond}
 use mathlib.Core.Option.{Option, none, some}
 use mathlib.Core.List.{List, [], _∷_, _++_}
 use native.Mathlib.Nat.{max-eq-right, le-max-right}
 use native.Mathlib.Omega.{arith}
-use borrow.Author.Tests.{leb-true, leb-false, le-leb, lt-ltb, ltb-true}
-use lib.Dec.{leb, ltb}
+use borrow.Author.Tests.{le-leb}
+use lib.Dec.{ltb}
 use lib.Ieee.{Float}
 use lib.ListN.{length, getD}
-use Rattle.refusal.specs.Answer.{Answer, refused, done, refusedAs, _>>=_, _>>_, refuseWhen}
-use Rattle.refusal.specs.declared.Refusal.{Refusal}
 use Rattle.rows.specs.Lists.{every, joined}
-use Rattle.rows.specs.Table.{find, rising}
 use Rattle.rows.proofs.Bools.{parts, and-i}
 use Rattle.rows.proofs.Tables.{every-append, rising-below, found-is}
-use Rattle.geometry.specs.Polyline.{Polyline, polylineOf}
+use Rattle.geometry.specs.Polyline.{Polyline}
 use Rattle.centerline.specs.declared.Line.{Line}
 use Rattle.centerline.specs.Line.{pointsOf}
-use Rattle.store.specs.Layout.{countOf, nextOf, rowOf}
-use Rattle.map.specs.declared.Found.the-variants.{At}
 use Rattle.map.specs.Record.{Signal, Rule, Map}
-use Rattle.map.specs.Entity.{EntityRef, entity, compareRefs, listed}
+use Rattle.map.specs.Entity.{EntityRef, entity, compareRefs}
 use Rattle.map.specs.Lookup.{ruleOf}
 use Rattle.map.specs.MapFile.{isMap}
 use Rattle.map.specs.Rows.{fresh, withLine, withSignal}
 use Rattle.map.specs.Tables.{mapOf}
-use Rattle.map.specs.Access.{lookup}
 use Rattle.map.specs.Updates.{signalOfParts}
-use Rattle.changes.specs.declared.Tally.{Tally}
-use Rattle.changes.specs.ChangeSet.{ChangeSet, normalize, foldStep, tallyOf}
+use Rattle.changes.specs.ChangeSet.{ChangeSet, normalize, foldStep}
 use Rattle.changes.specs.ChangeFile.{isBefore, riseAfter, risingRefs}
-use Rattle.changes.specs.Layout.{changeSetOf}
 use Rattle.changes.specs.Running.{allBelow, foldFits}
-use Rattle.place.specs.Values.{Roomy}
 use Rattle.place.proofs.LineLaws.{line-part}
 use Rattle.place.proofs.Sound.{readable}
-use Rattle.placing.specs.declared.Checked.{Checked}
-use Rattle.placing.specs.declared.Checked.the-variants as k
-use Rattle.placing.specs.Answers.{checked}
-use Rattle.edit.specs.declared.Called.{Called}
-use Rattle.edit.specs.declared.Called.the-variants as c
 use Rattle.edit.specs.declared.SignalRequest.{SignalRequest}
-use Rattle.edit.specs.Edit.{Draft, call}
-use Rattle.edit.specs.Lent.{Lent, CallLeft}
-use Rattle.edit.specs.Light.{NewTrafficSignal, Planned, Lift, kept, eased, gone, lift, easedRef, goneRef, lineDrawn, bulbsOf, newSignal, lightDraft, lightEdit, addTrafficSignal}
+use Rattle.edit.specs.Edit.{call}
+use Rattle.edit.specs.Light.{NewTrafficSignal, Planned, Lift, kept, eased, gone, lift, easedRef, goneRef, lineDrawn, bulbsOf, newSignal, lightDraft}
 use Rattle.edit.specs.Request.{newTrafficSignal}
-use Rattle.finishing.specs.Finish.{lentChecks, planned, FoldSettled, CallEnds}
-use Rattle.finishing.proofs.CallLaws.{LentFine, lent-fine, lent-refused, plan-refused, call-refused, ends-refused, ends-done, not-late}
 use Rattle.finishing.proofs.FreshLaws.{Below, New, FoldBelow, below-all, new-all, fresh-fits}
 use Rattle.lighting.specs.declared.LinePlan.{LinePlan}
 use Rattle.lighting.specs.declared.LinePlan.the-variants.{Use, NoLine, Draw}
 use Rattle.lighting.specs.Housing.{housingOf}
 use Rattle.lighting.specs.Plan.{planOf, drawnOf}
 use Rattle.signal_row.specs.declared.SignalRow.{SignalRow}
-use Rattle.signal_row.specs.Row.{BulbsRead, RowMade}
+use Rattle.signal_row.specs.Row.{RowMade}
 use Rattle.light_draft.specs.declared.Light.{Light}
-use Rattle.light_draft.specs.Drafting.{lineFor, oneIf, spent, ruleNumber, joins, lateFor, numbersFor, LightNumbered, lineIn, notes, lightSet, SetDrafted, liftedFirst, withLight, Joinable}
-use Rattle.light_draft.proofs.DraftLaws.{rules-rise, map-order, changes-are}
-use Rattle.light_store.specs.Storing.{coordsIn, GroupAsks, StoreAsks, groupIn, lightMap, LightStored}
-use Rattle.light_store.proofs.StoreLaws.{rules-are}
+use Rattle.light_draft.specs.Drafting.{lineFor, oneIf, spent, ruleNumber, joins, numbersFor, lineIn, notes, lightSet, liftedFirst, withLight, Joinable}
+use Rattle.light_draft.proofs.DraftLaws.{rules-rise, map-order}
+use Rattle.light_store.specs.Storing.{coordsIn, StoreAsks, groupIn, lightMap, LightStored}
 use Rattle.light_room.specs.declared.SignalPlan.{SignalPlan}
-use Rattle.light_room.specs.Room.{countsFit, roomFor, RoomTested, plannedIn, signalDraft, SignalReady, SignalPlanned}
-use Rattle.light_room.proofs.PlanLaws.{stored-light, its-signals, at-index, joined-all}
+use Rattle.light_room.proofs.PlanLaws.{stored-light}
 use Rattle.signals.specs.Signal.{AsksToStore, StoredAs}
 
 -- ---- stored

@@ -1,5 +1,5 @@
 -- What storing a planned light asks for and leaves.
-use Prim.Native.Nat.{ℕ, _+_, _-_, _^_, _≤_, _<_, max}
+use Prim.Native.Nat.{_-_, ℕ, _+_, _^_, _≤_, _<_, max}
 use mathlib.Core.Path.{_≡_}
 use mathlib.Core.Bool.{true, false, not}
 use mathlib.Core.List.{List}

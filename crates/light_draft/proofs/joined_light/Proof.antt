@@ -1,29 +1,22 @@
+-- `light_draft::joined_light` meets its contract. Assumes nothing.
 use native.Mathlib.Omega.{arith}
 use Rattle.light_draft.proofs.StepLaws.{one-few, joined-late, joined-right}
 use borrow.Author.Needs.{needs}
 use Rattle.light_draft.proofs.joined_light.Statement.{statement}
 use Rattle.light_draft.proofs.joined_light.Tie as tie
-use Rattle.light_draft.proofs.joined_light.Reads as reads
-use Rattle.light_draft.proofs.joined_light.Lts as lts
-use Rattle.light_draft.proofs.one_if.Reads as one-if-reads
 
--- src/lib.rt:100:9
 one-if-requires : tie.Need-one-if-requires
 one-if-requires c κs = search needs
 
--- src/lib.rt:101:8
 sub-if1 : tie.Need-sub-if1
 sub-if1 c = omega (arith, one-few (c .before .args .l .drawn) _ (c .one-if .ensures))
 
--- src/lib.rt:102:9
 returns : tie.Need-returns
 returns c = joined-late (c .before .before .args .l) _ _ (c .before .one-if .ensures) _ (c .if1 .taken)
 
--- src/lib.rt:116:17
 add-t5 : tie.Need-add-t5
 add-t5 c = omega (arith, one-few (c .before .before .args .l .drawn) _ (c .before .one-if .ensures), c .if1 .left)
 
--- src/lib.rt:97:1
 returns-2 : tie.Need-returns-2
 returns-2 c = joined-right (c .before .before .args .l) _ _ (c .before .one-if .ensures) _ (omega (arith, c .if1 .left)) (one-few (c .before .before .args .l .drawn) _ (c .before .one-if .ensures))
 

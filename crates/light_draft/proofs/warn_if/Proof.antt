@@ -1,25 +1,19 @@
+-- `light_draft::warn_if` meets its contract. Assumes nothing.
 use borrow.Author.Tests.{not-true, not-false}
 use Rattle.light_draft.proofs.StepLaws.{warn-none, warn-some, warn-room}
 use borrow.Author.Needs.{needs}
 use Rattle.light_draft.proofs.warn_if.Statement.{statement}
 use Rattle.light_draft.proofs.warn_if.Tie as tie
-use Rattle.light_draft.proofs.warn_if.Reads as reads
-use Rattle.light_draft.proofs.warn_if.Lts as lts
-use Rattle.building.proofs.warn.Reads as warn-reads
 
--- src/lib.rt:151:9
 returns : tie.Need-returns
 returns c = warn-none _ _ _ _ _ (c .before .before .pre) (not-true _ (c .if1 .taken))
 
--- src/lib.rt:153:5
 warn-requires : tie.Need-warn-requires
 warn-requires c κs = warn-room _ (c .before .before .before .pre)
 
--- src/lib.rt:146:1
 same-length : tie.Need-same-length
 same-length c = search needs
 
--- src/lib.rt:146:1
 returns-2 : tie.Need-returns-2
 returns-2 c = warn-some _ _ _ _ _ _ (c .before .before .before .before .before .before .pre) (not-false _ (c .before .before .before .before .if1 .left)) (c .before .before .warn .ensures)
 

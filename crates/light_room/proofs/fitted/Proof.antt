@@ -1,45 +1,31 @@
+-- `light_room::fitted` meets its contract. Assumes nothing.
 use borrow.Author.Tests.{not-true, not-false}
 use Rattle.light_room.proofs.TestLaws.{freed-few, more-few, fitted-off, fitted-full, fitted-fine}
 use borrow.Author.Needs.{needs}
 use Rattle.light_room.proofs.fitted.Statement.{statement}
 use Rattle.light_room.proofs.fitted.Tie as tie
-use Rattle.light_room.proofs.fitted.Reads as reads
-use Rattle.light_room.proofs.fitted.Lts as lts
-use Rattle.light_room.proofs.tests.freed_by.Reads as freed-by-reads
-use Rattle.light_room.proofs.tests.lists_fit.Reads as lists-fit-reads
-use Rattle.light_room.proofs.tests.on_map.Reads as on-map-reads
-use Rattle.light_room.proofs.tests.points_of.Reads as points-of-reads
-use Rattle.light_room.proofs.tests.room.Reads as room-reads
 
--- src/lib.rt:55:9
 on-map-requires : tie.Need-on-map-requires
 on-map-requires c κs = search needs
 
--- src/lib.rt:56:9
 returns : tie.Need-returns
 returns c = fitted-off _ _ (c .before .before .before .before .args .l) (c .before .before .before .before .args .line) (c .before .before .before .before .args .housing) (c .before .before .before .before .args .bulbs) (c .before .before .before .before .args .joined) _ (c .before .on-map .ensures) (not-true _ (c .if1 .taken))
 
--- src/lib.rt:58:9
 freed-by-requires : tie.Need-freed-by-requires
 freed-by-requires c κs = search needs
 
--- src/lib.rt:59:9
 lists-fit-requires : tie.Need-lists-fit-requires
 lists-fit-requires c κs = search needs
 
--- src/lib.rt:60:9
 points-of-requires : tie.Need-points-of-requires
 points-of-requires c κs = search needs
 
--- src/lib.rt:61:9
 room-requires : tie.Need-room-requires
 room-requires c κs = (c .before .before .before .before .before .before .before .pre .0 .sized, c .before .before .before .before .before .before .before .pre .2, c .before .before .before .before .before .before .before .pre .3, freed-few _ _ _ _ (c .before .before .freed-by .ensures) (c .before .before .before .before .before .before .before .pre .0 .sized) (c .before .before .before .before .before .before .before .pre .3) .0, freed-few _ _ _ _ (c .before .before .freed-by .ensures) (c .before .before .before .before .before .before .before .pre .0 .sized) (c .before .before .before .before .before .before .before .pre .3) .1, more-few (c .before .before .before .before .before .before .before .args .l .drawn) _ _ _ (c .before .before .before .before .before .before .before .pre .4 .few) (c .before .before .before .before .before .before .before .pre .5 .few) (c .points-of .ensures))
 
--- src/lib.rt:62:9
 returns-2 : tie.Need-returns-2
 returns-2 c = fitted-full _ _ (c .before .before .before .before .before .before .before .before .before .args .l) (c .before .before .before .before .before .before .before .before .before .args .line) (c .before .before .before .before .before .before .before .before .before .args .housing) (c .before .before .before .before .before .before .before .before .before .args .bulbs) (c .before .before .before .before .before .before .before .before .before .args .joined) _ (c .before .before .before .before .before .before .on-map .ensures) (not-false _ (c .before .before .before .before .before .if1 .left)) _ (c .before .before .before .before .freed-by .ensures) _ (c .before .before .before .lists-fit .ensures) _ (c .before .before .points-of .ensures) _ (c .before .room .ensures) (not-true _ (c .if2 .taken))
 
--- src/lib.rt:43:1
 returns-3 : tie.Need-returns-3
 returns-3 c = fitted-fine _ _ (c .before .before .before .before .before .before .before .before .before .args .l) (c .before .before .before .before .before .before .before .before .before .args .line) (c .before .before .before .before .before .before .before .before .before .args .housing) (c .before .before .before .before .before .before .before .before .before .args .bulbs) (c .before .before .before .before .before .before .before .before .before .args .joined) _ (c .before .before .before .before .before .before .on-map .ensures) (not-false _ (c .before .before .before .before .before .if1 .left)) _ (c .before .before .before .before .freed-by .ensures) _ (c .before .before .before .lists-fit .ensures) _ (c .before .before .points-of .ensures) _ (c .before .room .ensures) (not-false _ (c .if2 .left))
 

@@ -1,29 +1,22 @@
+-- `light_store::lift_stored` meets its contract. Assumes nothing.
 use borrow.Author.Tests.{not-true, not-false}
 use Rattle.light_store.proofs.StoreLaws.{lift-none, lift-some}
 use borrow.Author.Needs.{needs}
 use Rattle.light_store.proofs.lift_stored.Statement.{statement}
 use Rattle.light_store.proofs.lift_stored.Tie as tie
-use Rattle.light_store.proofs.lift_stored.Reads as reads
-use Rattle.light_store.proofs.lift_stored.Lts as lts
-use Rattle.lifting.proofs.apply.apply_lifts.Reads as apply-lifts-reads
 
--- src/lib.rt:25:9
 returns : tie.Need-returns
 returns c = lift-none _ _ (c .before .before .before .before .before .args .l) _ (c .before .before .before .before .before .pre) (not-true _ (c .if1 .taken))
 
--- src/lib.rt:27:5
 apply-lifts-requires : tie.Need-apply-lifts-requires
 apply-lifts-requires c κs = c .before .before .before .before .before .before .before .pre
 
--- src/lib.rt:20:1
 same-length : tie.Need-same-length
 same-length c = search needs
 
--- src/lib.rt:20:1
 same-length-2 : tie.Need-same-length-2
 same-length-2 c = search needs
 
--- src/lib.rt:20:1
 returns-2 : tie.Need-returns-2
 returns-2 c = lift-some _ _ (c .before .before .before .before .before .before .before .before .before .before .before .before .args .l) _ _ _ (not-false _ (c .before .before .before .before .before .before .before .if1 .left)) (c .before .before .before .before .apply-lifts .ensures)
 

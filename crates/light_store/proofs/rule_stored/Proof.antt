@@ -1,34 +1,25 @@
+-- `light_store::rule_stored` meets its contract. Assumes nothing.
 use native.Mathlib.Omega.{arith}
 use Rattle.light_store.proofs.StoreLaws.{rule-none, rule-some}
 use borrow.Author.Needs.{needs}
 use Rattle.light_store.proofs.rule_stored.Statement.{statement}
 use Rattle.light_store.proofs.rule_stored.Tie as tie
-use Rattle.light_store.proofs.rule_stored.Reads as reads
-use Rattle.light_store.proofs.rule_stored.Lts as lts
-use Rattle.light_draft.proofs.one_if.Reads as one-if-reads
-use Rattle.map.proofs.update.push_rule.Reads as push-rule-reads
 
--- src/lib.rt:86:9
 returns : tie.Need-returns
 returns c = rule-none _ (c .before .before .before .args .l) _ (c .if1 .taken)
 
--- src/lib.rt:89:36
 one-if-requires : tie.Need-one-if-requires
 one-if-requires c κs = search needs
 
--- src/lib.rt:89:71
 slice-aggregate-push-rule : tie.Need-slice-aggregate-push-rule
 slice-aggregate-push-rule c = search needs
 
--- src/lib.rt:89:5
 push-rule-requires : tie.Need-push-rule-requires
 push-rule-requires c κs = (c .before .before .before .before .before .before .pre .sized, c .before .before .before .before .before .before .pre .free (c .before .before .before .if1 .left), c .before .before .before .before .before .before .pre .next (c .before .before .before .if1 .left), omega arith, omega arith, c .before .before .before .before .before .before .pre .few (c .before .before .before .if1 .left), omega arith)
 
--- src/lib.rt:81:1
 same-length : tie.Need-same-length
 same-length c = search needs
 
--- src/lib.rt:81:1
 returns-2 : tie.Need-returns-2
 returns-2 c = rule-some _ (c .before .before .before .before .before .before .before .before .before .args .l) _ _ _ (c .before .before .before .before .before .before .if1 .left) (c .before .before .before .before .one-if .ensures) (c .before .before .push-rule .ensures)
 

@@ -1,46 +1,35 @@
+-- `light_store::signal_stored` meets its contract. Assumes nothing.
 use native.Mathlib.Omega.{arith}
 use Rattle.place.proofs.LineLaws.{part-long}
 use Rattle.light_store.proofs.StoreLaws.{signal-asks, signal-done}
 use borrow.Author.Needs.{needs}
 use Rattle.light_store.proofs.signal_stored.Statement.{statement}
 use Rattle.light_store.proofs.signal_stored.Tie as tie
-use Rattle.light_store.proofs.signal_stored.Reads as reads
-use Rattle.light_store.proofs.signal_stored.Lts as lts
-use Rattle.map.proofs.update.push_signal.Reads as push-signal-reads
 
--- src/lib.rt:74:13
 mul-e : tie.Need-mul-e
 mul-e c = search needs
 
--- src/lib.rt:77:40
 slice-aggregate-push-signal : tie.Need-slice-aggregate-push-signal
 slice-aggregate-push-signal c = search needs
 
--- src/lib.rt:77:50
 array-share-prefix-cs : tie.Need-array-share-prefix-cs
 array-share-prefix-cs c = search needs
 
--- src/lib.rt:77:50
 slice-aggregate-push-signal-2 : tie.Need-slice-aggregate-push-signal-2
 slice-aggregate-push-signal-2 c = part-long _ _ (omega (arith, c .before .before .before .before .before .before .before .before .before .before .pre .room .few, c .before .before .before .before .before .before .before .before .before .before .pre .room .long))
 
--- src/lib.rt:77:60
 slice-aggregate-push-signal-3 : tie.Need-slice-aggregate-push-signal-3
 slice-aggregate-push-signal-3 c = search needs
 
--- src/lib.rt:77:5
 push-signal-requires : tie.Need-push-signal-requires
 push-signal-requires c κs = signal-asks _ _ (c .before .before .before .before .before .before .before .before .before .before .before .args .row) (c .before .before .before .before .before .before .before .before .before .before .before .args .housing) (search needs) (search needs) (c .before .before .before .before .before .before .before .before .before .before .before .pre)
 
--- src/lib.rt:69:1
 same-length : tie.Need-same-length
 same-length c = search needs
 
--- src/lib.rt:69:1
 same-length-2 : tie.Need-same-length-2
 same-length-2 c = search needs
 
--- src/lib.rt:69:1
 returns : tie.Need-returns
 returns c = signal-done _ _ (c .before .before .before .before .before .before .before .before .before .before .before .before .before .before .before .before .args .row) (c .before .before .before .before .before .before .before .before .before .before .before .before .before .before .before .before .args .housing) _ _ (c .before .before .before .before .push-signal .ensures)
 

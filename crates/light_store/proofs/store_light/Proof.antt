@@ -1,44 +1,30 @@
+-- `light_store::store_light` meets its contract. Assumes nothing.
 use Rattle.light_store.proofs.StoreLaws.{group-asks, line-asks, signal-needs, rule-asks, light-stored}
 use borrow.Author.Needs.{needs}
 use Rattle.light_store.proofs.store_light.Statement.{statement}
 use Rattle.light_store.proofs.store_light.Tie as tie
-use Rattle.light_store.proofs.store_light.Reads as reads
-use Rattle.light_store.proofs.store_light.Lts as lts
-use Rattle.light_store.proofs.group_stored.Reads as group-stored-reads
-use Rattle.light_store.proofs.lift_stored.Reads as lift-stored-reads
-use Rattle.light_store.proofs.line_stored.Reads as line-stored-reads
-use Rattle.light_store.proofs.rule_stored.Reads as rule-stored-reads
-use Rattle.light_store.proofs.signal_stored.Reads as signal-stored-reads
 
--- src/lib.rt:106:5
 lift-stored-requires : tie.Need-lift-stored-requires
 lift-stored-requires c κs = search needs
 
--- src/lib.rt:107:5
 group-stored-requires : tie.Need-group-stored-requires
 group-stored-requires c κs = group-asks _ _ _ (c .before .before .before .before .before .before .before .before .before .before .before .args .l) (c .before .before .before .before .before .before .before .before .before .before .before .args .line) (c .before .before .before .before .before .before .before .before .before .before .before .args .housing) (c .before .before .before .before .before .before .before .before .before .before .before .args .row) (c .before .before .before .before .before .before .before .before .before .before .before .args .joined) (c .before .before .before .before .before .before .before .before .before .before .before .pre) _ _ (c .before .before .before .before .before .lift-stored .ensures)
 
--- src/lib.rt:108:5
 line-stored-requires : tie.Need-line-stored-requires
 line-stored-requires c κs = line-asks _ _ _ (c .before .before .before .before .before .before .before .before .before .before .before .before .before .before .before .before .args .l) (c .before .before .before .before .before .before .before .before .before .before .before .before .before .before .before .before .args .line) (c .before .before .before .before .before .before .before .before .before .before .before .before .before .before .before .before .args .housing) (c .before .before .before .before .before .before .before .before .before .before .before .before .before .before .before .before .args .row) (c .before .before .before .before .before .before .before .before .before .before .before .before .before .before .before .before .args .joined) (c .before .before .before .before .before .before .before .before .before .before .before .before .before .before .before .before .pre) _ _ (c .before .before .before .before .before .before .before .before .before .before .lift-stored .ensures) _ (c .before .before .before .before .group-stored .ensures)
 
--- src/lib.rt:109:5
 signal-stored-requires : tie.Need-signal-stored-requires
 signal-stored-requires c κs = signal-needs _ _ _ (c .before .before .before .before .before .before .before .before .before .before .before .before .before .before .before .before .before .before .before .before .before .before .before .args .l) (c .before .before .before .before .before .before .before .before .before .before .before .before .before .before .before .before .before .before .before .before .before .before .before .args .line) (c .before .before .before .before .before .before .before .before .before .before .before .before .before .before .before .before .before .before .before .before .before .before .before .args .housing) (c .before .before .before .before .before .before .before .before .before .before .before .before .before .before .before .before .before .before .before .before .before .before .before .args .row) (c .before .before .before .before .before .before .before .before .before .before .before .before .before .before .before .before .before .before .before .before .before .before .before .args .joined) (c .before .before .before .before .before .before .before .before .before .before .before .before .before .before .before .before .before .before .before .before .before .before .before .pre) _ _ (c .before .before .before .before .before .before .before .before .before .before .before .before .before .before .before .before .before .lift-stored .ensures) _ (c .before .before .before .before .before .before .before .before .before .before .before .group-stored .ensures) _ _ (c .before .before .before .before .before .before .line-stored .ensures)
 
--- src/lib.rt:110:5
 rule-stored-requires : tie.Need-rule-stored-requires
 rule-stored-requires c κs = rule-asks _ _ _ (c .before .before .before .before .before .before .before .before .before .before .before .before .before .before .before .before .before .before .before .before .before .before .before .before .before .before .before .before .before .args .l) (c .before .before .before .before .before .before .before .before .before .before .before .before .before .before .before .before .before .before .before .before .before .before .before .before .before .before .before .before .before .args .line) (c .before .before .before .before .before .before .before .before .before .before .before .before .before .before .before .before .before .before .before .before .before .before .before .before .before .before .before .before .before .args .housing) (c .before .before .before .before .before .before .before .before .before .before .before .before .before .before .before .before .before .before .before .before .before .before .before .before .before .before .before .before .before .args .row) (c .before .before .before .before .before .before .before .before .before .before .before .before .before .before .before .before .before .before .before .before .before .before .before .before .before .before .before .before .before .args .joined) (c .before .before .before .before .before .before .before .before .before .before .before .before .before .before .before .before .before .before .before .before .before .before .before .before .before .before .before .before .before .pre) _ _ (c .before .before .before .before .before .before .before .before .before .before .before .before .before .before .before .before .before .before .before .before .before .before .before .lift-stored .ensures) _ (c .before .before .before .before .before .before .before .before .before .before .before .before .before .before .before .before .before .group-stored .ensures) _ _ (c .before .before .before .before .before .before .before .before .before .before .before .before .line-stored .ensures) _ _ (c .before .before .before .before .before .signal-stored .ensures)
 
--- src/lib.rt:93:1
 same-length : tie.Need-same-length
 same-length c = search needs
 
--- src/lib.rt:93:1
 same-length-2 : tie.Need-same-length-2
 same-length-2 c = search needs
 
--- src/lib.rt:93:1
 returns : tie.Need-returns
 returns c = light-stored _ _ _ (c .before .before .before .before .before .before .before .before .before .before .before .before .before .before .before .before .before .before .before .before .before .before .before .before .before .before .before .before .before .before .before .before .args .l) (c .before .before .before .before .before .before .before .before .before .before .before .before .before .before .before .before .before .before .before .before .before .before .before .before .before .before .before .before .before .before .before .before .args .line) (c .before .before .before .before .before .before .before .before .before .before .before .before .before .before .before .before .before .before .before .before .before .before .before .before .before .before .before .before .before .before .before .before .args .housing) (c .before .before .before .before .before .before .before .before .before .before .before .before .before .before .before .before .before .before .before .before .before .before .before .before .before .before .before .before .before .before .before .before .args .row) (c .before .before .before .before .before .before .before .before .before .before .before .before .before .before .before .before .before .before .before .before .before .before .before .before .before .before .before .before .before .before .before .before .args .joined) (c .before .before .before .before .before .before .before .before .before .before .before .before .before .before .before .before .before .before .before .before .before .before .before .before .before .before .before .before .before .before .before .before .pre) _ _ (c .before .before .before .before .before .before .before .before .before .before .before .before .before .before .before .before .before .before .before .before .before .before .before .before .before .before .lift-stored .ensures) _ (c .before .before .before .before .before .before .before .before .before .before .before .before .before .before .before .before .before .before .before .before .group-stored .ensures) _ _ (c .before .before .before .before .before .before .before .before .before .before .before .before .before .before .before .line-stored .ensures) _ _ (c .before .before .before .before .before .before .before .before .signal-stored .ensures) _ (c .before .before .rule-stored .ensures)
 

@@ -1,106 +1,79 @@
+-- `signals::add_traffic_signal` meets its contract. Assumes nothing.
 use Rattle.edit.specs.Request.{newTrafficSignal}
 use Rattle.signals.proofs.CarryLaws as K
 use borrow.Author.Needs.{needs}
 use Rattle.signals.proofs.add_traffic_signal.Statement.{statement}
 use Rattle.signals.proofs.add_traffic_signal.Tie as tie
-use Rattle.signals.proofs.add_traffic_signal.Reads as reads
-use Rattle.signals.proofs.add_traffic_signal.Lts as lts
-use Rattle.finishing.proofs.check_lent.Reads as check-lent-reads
-use Rattle.finishing.proofs.refused.Reads as refused-reads
-use Rattle.light_room.proofs.signal_plan.Reads as signal-plan-reads
-use Rattle.signals.proofs.carry_out.Reads as carry-out-reads
 
--- src/lib.rt:81:9
 check-lent-requires : tie.Need-check-lent-requires
 check-lent-requires c κs = search needs
 
--- src/lib.rt:82:29
 enum-known-lent : tie.Need-enum-known-lent
 enum-known-lent c = search needs
 
--- src/lib.rt:83:9
 refused-requires : tie.Need-refused-requires
 refused-requires c κs = search needs
 
--- src/lib.rt:83:9
 same-length : tie.Need-same-length
 same-length c = search needs
 
--- src/lib.rt:83:9
 same-length-2 : tie.Need-same-length-2
 same-length-2 c = search needs
 
--- src/lib.rt:83:9
 same-length-3 : tie.Need-same-length-3
 same-length-3 c = search needs
 
--- src/lib.rt:83:9
 same-length-4 : tie.Need-same-length-4
 same-length-4 c = search needs
 
--- src/lib.rt:83:9
 returns : tie.Need-returns
 returns c = K.lent-turned-down _ _ _ _ _ (c .before .before .before .before .before .before .before .before .before .before .before .before .before .before .before .before .args .q) (newTrafficSignal (c .before .before .before .before .before .before .before .before .before .before .before .before .before .before .before .before .args .lanes .now) (c .before .before .before .before .before .before .before .before .before .before .before .before .before .before .before .before .args .q) (c .before .before .before .before .before .before .before .before .before .before .before .before .before .before .before .before .args .points .now) (c .before .before .before .before .before .before .before .before .before .before .before .before .before .before .before .before .args .housing .now)) _ (c .before .before .before .before .check-lent .ensures) _ (c .before .before .lent .given .1) _ _ (c .refused .ensures)
 
 enum-told : tie.Need-enum-told
 enum-told c = search needs
 
--- src/lib.rt:85:9
 signal-plan-requires : tie.Need-signal-plan-requires
 signal-plan-requires c κs = K.known _ _ _ _ _ (K.is-fine _ _ _ _ _ (c .before .before .before .before .before .before .before .before .before .before .before .before .before .before .before .before .args .q) (newTrafficSignal (c .before .before .before .before .before .before .before .before .before .before .before .before .before .before .before .before .args .lanes .now) (c .before .before .before .before .before .before .before .before .before .before .before .before .before .before .before .before .args .q) (c .before .before .before .before .before .before .before .before .before .before .before .before .before .before .before .before .args .points .now) (c .before .before .before .before .before .before .before .before .before .before .before .before .before .before .before .before .args .housing .now)) _ (c .before .before .before .before .check-lent .ensures) (c .before .before .enum-told .given .1)) .tables
 
--- src/lib.rt:87:29
 enum-known-checked : tie.Need-enum-known-checked
 enum-known-checked c = search needs
 
--- src/lib.rt:88:9
 refused-requires-2 : tie.Need-refused-requires-2
 refused-requires-2 c κs = search needs
 
--- src/lib.rt:88:9
 same-length-5 : tie.Need-same-length-5
 same-length-5 c = search needs
 
--- src/lib.rt:88:9
 same-length-6 : tie.Need-same-length-6
 same-length-6 c = search needs
 
--- src/lib.rt:88:9
 same-length-7 : tie.Need-same-length-7
 same-length-7 c = search needs
 
--- src/lib.rt:88:9
 same-length-8 : tie.Need-same-length-8
 same-length-8 c = search needs
 
--- src/lib.rt:88:9
 returns-2 : tie.Need-returns-2
 returns-2 c = K.plan-turned-down _ _ _ _ _ (c .before .before .before .before .before .before .before .before .before .before .before .before .before .before .before .before .before .before .before .before .before .args .q) (newTrafficSignal (c .before .before .before .before .before .before .before .before .before .before .before .before .before .before .before .before .before .before .before .before .before .args .lanes .now) (c .before .before .before .before .before .before .before .before .before .before .before .before .before .before .before .before .before .before .before .before .before .args .q) (c .before .before .before .before .before .before .before .before .before .before .before .before .before .before .before .before .before .before .before .before .before .args .points .now) (c .before .before .before .before .before .before .before .before .before .before .before .before .before .before .before .before .before .before .before .before .before .args .housing .now)) _ (c .before .before .before .before .before .before .before .before .before .check-lent .ensures) (c .before .before .before .before .before .before .before .enum-told .given .1) _ (c .before .before .before .before .signal-plan .ensures) _ (c .before .before .checked .given .1) _ _ (c .refused2 .ensures)
 
 enum-told-2 : tie.Need-enum-told-2
 enum-told-2 c = search needs
 
--- src/lib.rt:90:5
 carry-out-requires : tie.Need-carry-out-requires
 carry-out-requires c κs = (K.is-fine _ _ _ _ _ (c .before .before .before .before .before .before .before .before .before .before .before .before .before .before .before .before .before .before .before .before .before .before .before .args .q) (newTrafficSignal (c .before .before .before .before .before .before .before .before .before .before .before .before .before .before .before .before .before .before .before .before .before .before .before .args .lanes .now) (c .before .before .before .before .before .before .before .before .before .before .before .before .before .before .before .before .before .before .before .before .before .before .before .args .q) (c .before .before .before .before .before .before .before .before .before .before .before .before .before .before .before .before .before .before .before .before .before .before .before .args .points .now) (c .before .before .before .before .before .before .before .before .before .before .before .before .before .before .before .before .before .before .before .before .before .before .before .args .housing .now)) _ (c .before .before .before .before .before .before .before .before .before .before .before .check-lent .ensures) (c .before .before .before .before .before .before .before .before .before .enum-told .given .1), c .before .before .before .before .before .before .signal-plan .ensures .ready (c .before .before .before .before .enum-told2 .given .1))
 
--- src/lib.rt:68:1
 same-length-9 : tie.Need-same-length-9
 same-length-9 c = search needs
 
--- src/lib.rt:68:1
 same-length-10 : tie.Need-same-length-10
 same-length-10 c = search needs
 
--- src/lib.rt:68:1
 same-length-11 : tie.Need-same-length-11
 same-length-11 c = search needs
 
--- src/lib.rt:68:1
 same-length-12 : tie.Need-same-length-12
 same-length-12 c = search needs
 
--- src/lib.rt:68:1
 returns-3 : tie.Need-returns-3
 returns-3 c = K.is-left _ _ _ _ _ (c .before .before .before .before .before .before .before .before .before .before .before .before .before .before .before .before .before .before .before .before .before .before .before .before .before .before .before .before .before .before .before .before .args .q) (newTrafficSignal (c .before .before .before .before .before .before .before .before .before .before .before .before .before .before .before .before .before .before .before .before .before .before .before .before .before .before .before .before .before .before .before .before .args .lanes .now) (c .before .before .before .before .before .before .before .before .before .before .before .before .before .before .before .before .before .before .before .before .before .before .before .before .before .before .before .before .before .before .before .before .args .q) (c .before .before .before .before .before .before .before .before .before .before .before .before .before .before .before .before .before .before .before .before .before .before .before .before .before .before .before .before .before .before .before .before .args .points .now) (c .before .before .before .before .before .before .before .before .before .before .before .before .before .before .before .before .before .before .before .before .before .before .before .before .before .before .before .before .before .before .before .before .args .housing .now)) _ (c .before .before .before .before .before .before .before .before .before .before .before .before .before .before .before .before .before .before .before .before .check-lent .ensures) (c .before .before .before .before .before .before .before .before .before .before .before .before .before .before .before .before .before .before .enum-told .given .1) _ (c .before .before .before .before .before .before .before .before .before .before .before .before .before .before .before .signal-plan .ensures) (c .before .before .before .before .before .before .before .before .before .before .before .before .before .enum-told2 .given .1) _ _ (c .before .before .before .before .before .before .before .before .carry-out .ensures)
 

@@ -1,39 +1,29 @@
+-- `light_room::tests::joined_for` meets its contract. Assumes nothing.
 use mathlib.Core.Path.{refl}
-use borrow.Author.Tests.{not-true, not-false}
+use borrow.Author.Tests.{not-true}
 use Rattle.light_room.proofs.TestLaws.{joined-none, joined-lost, joined-some, found-here}
 use borrow.Author.Needs.{needs}
 use Rattle.light_room.proofs.tests.joined_for.Statement.{statement}
 use Rattle.light_room.proofs.tests.joined_for.Tie as tie
-use Rattle.light_room.proofs.tests.joined_for.Reads as reads
-use Rattle.light_room.proofs.tests.joined_for.Lts as lts
-use Rattle.grouping.proofs.joined_lanes.Reads as joined-lanes-reads
-use Rattle.map.proofs.lookup.find.Reads as find-reads
 
--- src/tests.rt:77:9
 returns : tie.Need-returns
 returns c = joined-none _ _ _ _ _ refl (not-true _ (c .if1 .taken))
 
--- src/tests.rt:79:24
 find-requires : tie.Need-find-requires
 find-requires c κs = search needs
 
--- src/tests.rt:79:19
 enum-known-i : tie.Need-enum-known-i
 enum-known-i c = search needs
 
--- src/tests.rt:80:9
 enum-told : tie.Need-enum-told
 enum-told c = search needs
 
--- src/tests.rt:80:9
 returns-2 : tie.Need-returns-2
 returns-2 c = joined-lost _ _ _ _ _ _ refl (c .before .before .find .ensures) (c .enum-told .given .1)
 
--- src/tests.rt:82:5
 joined-lanes-requires : tie.Need-joined-lanes-requires
 joined-lanes-requires c κs = (c .before .before .before .before .before .before .before .pre, found-here _ _ _ _ (c .before .before .before .find .ensures) (c .before .i .given .1))
 
--- src/tests.rt:68:1
 returns-3 : tie.Need-returns-3
 returns-3 c = joined-some _ _ _ _ _ _ _ (c .before .before .before .before .find .ensures) (c .before .before .i .given .1) (c .joined-lanes .ensures)
 

@@ -1,34 +1,24 @@
+-- `light_room::tests::room` meets its contract. Assumes nothing.
 use Rattle.light_room.proofs.TestLaws.{room-is}
 use borrow.Author.Needs.{needs}
 use Rattle.light_room.proofs.tests.room.Statement.{statement}
 use Rattle.light_room.proofs.tests.room.Tie as tie
-use Rattle.light_room.proofs.tests.room.Reads as reads
-use Rattle.light_room.proofs.tests.room.Lts as lts
-use Rattle.light_draft.proofs.both.Reads as both-reads
-use Rattle.light_room.proofs.tests.counts_fit.Reads as counts-fit-reads
-use Rattle.light_room.proofs.tests.points_fit.Reads as points-fit-reads
 
--- src/tests.rt:151:9
 counts-fit-requires : tie.Need-counts-fit-requires
 counts-fit-requires c κs = search needs
 
--- src/tests.rt:152:9
 points-fit-requires : tie.Need-points-fit-requires
 points-fit-requires c κs = search needs
 
--- src/tests.rt:153:35
 both-requires : tie.Need-both-requires
 both-requires c κs = search needs
 
--- src/tests.rt:153:18
 both-requires-2 : tie.Need-both-requires-2
 both-requires-2 c κs = search needs
 
--- src/tests.rt:153:5
 both-requires-3 : tie.Need-both-requires-3
 both-requires-3 c κs = search needs
 
--- src/tests.rt:139:1
 returns : tie.Need-returns
 returns c = room-is _ _ _ _ (c .before .before .before .before .before .before .args .drawn) (c .before .before .before .before .before .before .args .joins) _ _ _ _ _ _ _ _ _ _ (c .before .before .before .before .counts-fit .ensures) (c .before .before .before .points-fit .ensures) (c .before .before .both .ensures) (c .before .both2 .ensures) (c .both3 .ensures)
 
