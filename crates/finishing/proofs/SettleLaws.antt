@@ -14,13 +14,13 @@ use Rattle.changes.specs.ChangeFile.{risingRefs}
 use Rattle.changes.specs.ChangeSet.{Warning, ChangeSet, sortRefs, without, normalize, foldStep}
 use Rattle.changes.specs.Layout.{setWords, countIn, listIn, warningsAt, changeSetOf, listsOkIn}
 use Rattle.changes.specs.Running.{foldFits}
-use Rattle.changes.proofs.Refs.{sort-rising}
+use Rattle.changes.proofs.Refs.{sort-rising, length-sort, length-without}
 use Rattle.sets.specs.declared.Folded.{Folded}
 use Rattle.sets.specs.declared.Folded.the-variants as s
 use Rattle.sets.specs.Tables.{Roomy, Fits}
 use Rattle.sets.specs.Fold.{foldedAs, isRefused, foldFitted, FoldsTo}
-use Rattle.sets.proofs.ListLaws.{length-without, without-rises}
-use Rattle.sets.proofs.SettleLaws.{length-sort, length-in}
+use Rattle.sets.proofs.ListLaws.{without-rises}
+use Rattle.sets.proofs.SettleLaws.{length-in}
 use Rattle.sets.proofs.TableLaws.{fits-ok}
 use Rattle.normal.specs.Normal.{Normalized}
 use Rattle.placing.specs.declared.Checked.{Checked}
