@@ -175,9 +175,9 @@ impl Args {
 
 /// The number answered, or the refusal; 15 stands for a number that is no case.
 pub fn outcome(answer: [u64; 4]) -> Result<u64, Refusal> {
-    let [code, a, b, _] = answer;
+    let [code, number, a, b] = answer;
     match code {
-        0 => Ok(a),
+        0 => Ok(number),
         2 => Err(Refusal::new(2, &[a, b])),
         3..=8 => Err(Refusal::new(code as u8, &[a])),
         _ => Err(Refusal::new(code as u8, &[])),

@@ -41,7 +41,7 @@ use Rattle.edit.specs.Edit.{Draft, call}
 use Rattle.edit.specs.Lent.{Lent, CallLeft}
 use Rattle.edit.specs.Links.{RegulatoryLinks, linkChanges, linksEdit, setRegulatoryLinks}
 use Rattle.finishing.specs.Finish.{lentChecks, planned, RoomyAll, FoldSettled}
-use Rattle.finishing.proofs.CallLaws.{lent-fine, lent-refused, plan-refused, call-refused, last-refused, last-done, edit-refused}
+use Rattle.finishing.proofs.CallLaws.{lent-fine, lent-refused, plan-refused, call-refused, ends-refused, ends-done, edit-refused}
 use Rattle.linking.specs.declared.Sorted.{Sorted}
 use Rattle.linking.specs.Sorting.{SortedAs}
 use Rattle.linking.specs.Linking.{listChecks, ListsChecked}
@@ -160,15 +160,15 @@ module _ (ws : List ℕ) (cs : List Float) (f : List ℕ) (t : Tally) (s : List 
               → LinksEnd lent i b a (record { words = ws; coords = cs; fold = f′; tally = u; set = s })
           out-refused x q a u g = record {
             left = λ edit plan.
-                rw (g .0, g .1) (last-refused edit lent fine draft plan t0 false (E.draft-early ws cs (known .sound) n i found b) r f′ t1 h (ap (λ (y : ChangeSet). foldFits (foldStep (changeSetOf f) (normalize y))) same-set) x q);
+                ends-refused lent fine draft t0 false (E.draft-early ws cs (known .sound) n i found b) r f′ t1 h (ap (λ (y : ChangeSet). foldFits (foldStep (changeSetOf f) (normalize y))) same-set) x q a u g .left edit plan;
           }
 
           pub out-done : r ≡ k.Fine → (s′ ws′ : List ℕ) (u : Tally) → changeSetOf s′ ≡ changeSetOf t1 → LinksPut ws i lanes crosswalks lines ws′ → u ≡ tallyOf (changeSetOf f′)
               → LinksEnd lent i b (c.Done n) (record { words = ws′; coords = cs; fold = f′; tally = u; set = s′ })
           out-done q s′ ws′ u eset p eu = record {
             left = λ edit plan.
-                last-done edit lent fine draft plan t0 false (E.draft-early ws cs (known .sound) n i found b) r f′ t1 h same-set q ws′ cs u s′ n
-                (p .map cs (known .sound .sized .coords) ∙ sym (E.draft-map ws cs (known .sound) n i found b)) eu eset (sym (E.draft-id ws cs (known .sound) n i found b));
+                ends-done lent fine draft t0 false (E.draft-early ws cs (known .sound) n i found b) r f′ t1 h same-set q ws′ cs u s′ n
+                (p .map cs (known .sound .sized .coords) ∙ sym (E.draft-map ws cs (known .sound) n i found b)) eu eset (sym (E.draft-id ws cs (known .sound) n i found b)) .left edit plan;
           }
 
     -- ---- the rule
@@ -179,7 +179,7 @@ module _ (ws : List ℕ) (cs : List Float) (f : List ℕ) (t : Tally) (s : List 
 
       turned-down : (edit : Map → Answer Draft) (x : Refusal) (a : Called) (u : Tally) → (a ≡ c.Refused x) × (u ≡ t) → planned edit (mapOf ws cs) ≡ refusedAs x
           → CallLeft (call edit) lent a (record { words = ws; coords = cs; fold = f; tally = u; set = s })
-      turned-down edit x a u g p = rw (g .0, g .1) (call-refused edit lent x (plan-refused edit lent fine x p) lent refl)
+      turned-down edit x a u g p = call-refused edit lent x (plan-refused edit lent fine x p) f refl a u g
 
       none-edit : fd ≡ o.Nothing → risingEdit links (mapOf ws cs) ≡ refusedAs (e.Unknown 8 n)
       unfolding risingEdit
@@ -237,7 +237,7 @@ module _ (ws : List ℕ) (cs : List Float) (f : List ℕ) (t : Tally) (s : List 
     pub lent-turned-down : (x : Refusal) → r0 ≡ k.Refused x → (r : Called) (u : Tally) → (r ≡ c.Refused x) × (u ≡ t)
         → CallLeft (setRegulatoryLinks a) lent r (record { words = ws; coords = cs; fold = f; tally = u; set = s })
     unfolding setRegulatoryLinks
-    lent-turned-down x q r u g = rw (g .0, g .1) (call-refused (linksEdit a) lent x (lent-refused (linksEdit a) lent x (sym h0 ∙ ap checked q)) lent refl)
+    lent-turned-down x q r u g = call-refused (linksEdit a) lent x (lent-refused (linksEdit a) lent x (sym h0 ∙ ap checked q)) f refl r u g
 
     module _ (q : r0 ≡ k.Fine) where
       pub is-fine : lentChecks lent ≡ done tt
@@ -251,7 +251,7 @@ module _ (ws : List ℕ) (cs : List Float) (f : List ℕ) (t : Tally) (s : List 
             → CallLeft (setRegulatoryLinks a) lent r (record { words = ws; coords = cs; fold = f; tally = u; set = s })
         unfolding setRegulatoryLinks
         links-turned-down x z r u g =
-            rw (g .0, g .1) (call-refused (linksEdit a) lent x (plan-refused (linksEdit a) lent is-fine x (edit-refused (linksEdit a) (mapOf ws cs) x (after ∙ rw z))) lent refl)
+            call-refused (linksEdit a) lent x (plan-refused (linksEdit a) lent is-fine x (edit-refused (linksEdit a) (mapOf ws cs) x (after ∙ rw z))) f refl r u g
 
         module _ (z : p ≡ k.Fine) where
           list-checks : (u : Answer Rule) (v : Answer (Unit {0})) → (u >> v) ≡ done tt → v ≡ done tt

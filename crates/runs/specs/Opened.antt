@@ -1,0 +1,50 @@
+-- A map file opened, a list of calls carried out on it, and the running fold written as a change set file. What every run promises, for what this code leaves.
+use Prim.Native.Nat.{ℕ, _*_}
+use mathlib.Core.Path.{_≡_}
+use mathlib.Core.Bool.{true, false}
+use mathlib.Core.Option.{Option}
+use mathlib.Core.List.{List, _++_}
+use lib.ListN.{length, drop}
+use Rattle.refusal.specs.Answer.{Answer, done, _>>=_, _>>_}
+use Rattle.codec.specs.Format
+use Rattle.codec.specs.Format.{Bytes}
+use Rattle.map.specs.Record.{Map}
+use Rattle.changes.specs.ChangeFile.{changeFile}
+use Rattle.changes.specs.Layout.{changeSetOf}
+use Rattle.changes.specs.Running.{opening}
+use Rattle.files.specs.declared.Written.{Written}
+use Rattle.files.specs.Files.{readMap, putIn}
+use Rattle.files.specs.WriteOut.{FileWritten}
+use Rattle.edit.specs.Lent.{Lent, stateOf}
+use Rattle.run.specs.Run.{Edit, runAll, setsOf, calls}
+use Rattle.run.specs.Law.{RunLaw}
+use Rattle.call_list.specs.declared.Ran.{Ran}
+use Rattle.call_list.specs.Rows.{editsOf}
+use Rattle.call_list.specs.Ran.{ran, runAnswer, isRefused, replies, lastSet}
+
+-- the lengths as a run tests them, then 12 for bytes that are no map file; else how many rows were carried out
+unfoldable pub openedAnswer : Bytes → List (Option Edit) → Lent → List ℕ → Answer ℕ
+openedAnswer file rows l answers = do
+  n ← runAnswer rows l answers
+  readMap file
+  done n
+
+-- for m the map of the file, es the calls among the rows, and s the state that the tables, the fold and the tally stand for at the end
+pub record LeftByRun (m : Map) (rows : List (Option Edit)) (old : Lent) (answers buffer : List ℕ) (w : Written) (new : Lent) (answers′ buffer′ : List ℕ) : Type 0 where
+  -- s is where the definition's run of es from the opening of m ends
+  pub state : stateOf new ≡ runAll (editsOf rows) (opening m)
+  -- the law of every run holds of m, es and s: the fold and its tally, what it names, the record count, what no call alters, the numbers, the lights
+  pub law : RunLaw m (editsOf rows) (stateOf new)
+  -- the set that is lent holds the change set of the last call that was accepted
+  pub set : changeSetOf (new .set) ≡ lastSet (changeSetOf (old .set)) (setsOf (editsOf rows) (opening m))
+  -- each row has its answer in four words; the words after stay
+  pub replied : answers′ ≡ replies rows (calls (editsOf rows) (opening m)) ++ drop (length rows * 4) answers
+  -- the buffer begins with the fold's change set file, and the bytes after stay; where it is too short that is 14, and the buffer stays, but the run is carried out
+  pub written : FileWritten (putIn (changeFile .write (stateOf new .fold)) buffer) (changeFile .write (stateOf new .fold)) buffer w buffer′
+
+-- the whole outcome
+pub record OpenedLeft (file : Bytes) (rows : List (Option Edit)) (old : Lent) (answers buffer : List ℕ) (r : Ran) (w : Written) (new : Lent) (answers′ buffer′ : List ℕ) : Type 0 where
+  pub answer : ran r ≡ openedAnswer file rows old answers
+  pub left : (m : Map) → isRefused r ≡ false → readMap file ≡ done m → LeftByRun m rows old answers buffer w new answers′ buffer′
+  -- refused, nothing is altered
+  pub kept : isRefused r ≡ true → (new ≡ old) × (answers′ ≡ answers) × (buffer′ ≡ buffer)

@@ -1,0 +1,85 @@
+/* Edits of a lane map. Written in Rattle and proved; crates/edit_export has the contract of each function.
+
+   Every call is handed its memory and answers for every input: nothing is required of lengths, numbers or contents but that the
+   memory is there and that no two pieces that are written overlap anything else that is lent. A slice is a pointer and a count
+   of its elements. A refused call leaves all memory as it was, but the answer that it writes. */
+#ifndef LANE_MAP_H
+#define LANE_MAP_H
+
+#include <stddef.h>
+#include <stdint.h>
+
+#ifdef __cplusplus
+extern "C" {
+#endif
+
+/* Lengths of what is lent. Slices of other lengths are refused: 12 for words and coords, 13 for fold and set.
+   docs/TABLES.md says what stands where. */
+#define LANE_MAP_WORDS 13671   /* words:  the map's records */
+#define LANE_MAP_COORDS 105280 /* coords: the map's coordinates */
+#define LANE_MAP_SET 3556      /* fold:   the running fold; set: the change set of the last accepted call */
+#define LANE_MAP_ROW 26        /* a row of a list of calls */
+
+/* The tally: how many entries the running fold has as created, modified and deleted.
+
+   An answer is four words, and its first word is the result too:
+     0 done, 1 to 14 the refusal, 15 no call (a number is no case of its enum); the number of the record that was made or linked;
+     the two details of a refusal. A word that has nothing to say is 0.
+
+   Refusals: 1 no lanes; 2 unknown record (its kind, its number); 3 listed twice (1 lanes, 2 crosswalks, 3 lines);
+   4 bad measure (1 height, 2 offset, 3 station); 5 bad shape (1 not finite, 2 too short); 6 no place (1 no lane geometry, 2 empty,
+   3 degenerate centreline, 4 missing boundary, 5 no section, 6 empty stop line); 7 wrong group (1 controls crosswalks, 2 no light,
+   3 uses another line); 8 wrong link (1 to 8, in the order of the rule's tests); 9 off the map; 10 full; 11 numbers spent;
+   12 no map; 13 no running fold or set; 14 short buffer.
+
+   Kinds of records: 1 lane, 5 stop line, 6 signal, 7 crosswalk, 8 rule. */
+
+/* A stop line across the lanes.
+   placement: 0 at the first lane's end, 1 at a station, 2 at the given coordinates (x, y, z of each point).
+   measure:   the offset before the end, or the station, in metres; read for placements 0 and 1.
+   rule:      0 stop sign, 1 marking, 2 none. */
+uint64_t lane_map_add_stop_line(
+    uint64_t *words, size_t words_len, double *coords, size_t coords_len,
+    uint64_t *fold, size_t fold_len, uint64_t tally[3], uint64_t *set, size_t set_len,
+    const uint64_t *lanes, size_t lanes_len, uint64_t placement, double measure,
+    const double *given, size_t given_len, uint64_t rule, uint64_t answer[4]);
+
+/* A traffic light.
+   numbers: 0 choice of the line (0 automatic, 1 existing, 2 new, 3 none), 1 the existing line, 2 placement of a new one as above,
+            3 whether the housing is given, 4 whether the height is given, 5 kind (0 vehicle, 1 pedestrian),
+            6 whether the lamps are given, 7 how many (at most 4), 8 to 15 colour and arrow of four lamps
+            (colours: 0 red, 1 yellow, 2 green, 3 white; arrows: 0 none, 1 up, 2 down, 3 left, 4 right, 5 up left, 6 up right,
+            7 down left, 8 down right), 16 whether a group is given, 17 the light that it joins. Whether: 0 no, any other yes.
+   measures: 0 offset or station of a new line, 1 height, 2 to 13 x, y, z of four lamps.
+   points: the coordinates of a new line that is given; housing: those of the housing's lower edge. */
+uint64_t lane_map_add_traffic_signal(
+    uint64_t *words, size_t words_len, double *coords, size_t coords_len,
+    uint64_t *fold, size_t fold_len, uint64_t tally[3], uint64_t *set, size_t set_len,
+    const uint64_t *lanes, size_t lanes_len, const uint64_t numbers[18], const double measures[14],
+    const double *points, size_t points_len, const double *housing, size_t housing_len, uint64_t answer[4]);
+
+/* The lanes, crosswalks and stop lines of a rule. */
+uint64_t lane_map_set_regulatory_links(
+    uint64_t *words, size_t words_len, double *coords, size_t coords_len,
+    uint64_t *fold, size_t fold_len, uint64_t tally[3], uint64_t *set, size_t set_len,
+    uint64_t rule, const uint64_t *lanes, size_t lanes_len, const uint64_t *crosswalks, size_t crosswalks_len,
+    const uint64_t *stop_lines, size_t stop_lines_len, uint64_t answer[4]);
+
+/* A list of calls, carried out one after another: rows of 26 words; their lists stand in two pools. A place and a count name a part
+   of a pool; a part that does not lie within it makes no call (15).
+     word 0: 1 stop line, 2 light, 3 links; words 1, 2: place and count of the lanes in lists
+     stop line: 3 placement, 4 rule, 5 place of the measure in reals, 6, 7 place and count of the given coordinates in reals
+     light:     3 to 20 its numbers, 21 place of its fourteen measures in reals, 22, 23 the points, 24, 25 the housing, in reals
+     links:     3 rule, 4, 5 crosswalks, 6, 7 stop lines, in lists
+   answers: four words a row. The result: 0, or 12, 13 or 14 (answers too short), where nothing was carried out. */
+uint64_t lane_map_run_calls(
+    uint64_t *words, size_t words_len, double *coords, size_t coords_len,
+    uint64_t *fold, size_t fold_len, uint64_t tally[3], uint64_t *set, size_t set_len,
+    const uint64_t *calls, size_t calls_len, const uint64_t *lists, size_t lists_len, const double *reals, size_t reals_len,
+    uint64_t *answers, size_t answers_len);
+
+#ifdef __cplusplus
+}
+#endif
+
+#endif
