@@ -4,6 +4,7 @@ fn main() {
     println!("cargo:rustc-link-search=native={here}/../target/staticlib");
     println!("cargo:rustc-link-lib=static=root");
     println!("cargo:rustc-link-lib=static=geometry_export");
+    println!("cargo:rustc-link-lib=static=edit_export");
     println!("cargo:rustc-link-lib=static=validity_export");
     println!("cargo:rerun-if-changed=../target/staticlib");
 }

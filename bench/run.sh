@@ -1,11 +1,12 @@
 #!/bin/sh
 # run.sh DRIVER [arguments]: builds the proved static libraries and the drivers, and runs one of them.
 # Drivers: roots (patterns of all classes against the machine's root), geometry (random polylines against the Rust),
+# edits (random calls in runs against the Rust), edit_times (the edits beside the Rust, timed),
 # validity (the test of a map's tables, beside the Rust's edits),
 # requests (random requests with the Rust's answers, for target/bin/geometry_replay FILE).
 set -eu
 cd "$(dirname "$0")/.."
-for crate in root geometry_export validity_export; do
+for crate in root geometry_export validity_export edit_export; do
     rt staticlib "$crate" >/dev/null
 done
 cd bench

@@ -23,6 +23,16 @@ fn smear(lent: &mut Lent, rng: &mut Rng) {
     }
 }
 
+/// The boundary carries four lamps and a count: those past the fourth have no position of their own.
+fn carried(mut call: Call) -> Call {
+    if let Call::Light(light) = &mut call {
+        for bulb in light.bulbs.iter_mut().flatten().skip(4) {
+            bulb.at = [0.0; 3];
+        }
+    }
+    call
+}
+
 fn main() {
     let mut args = std::env::args().skip(1);
     let calls: usize = args.next().map_or(100_000, |a| a.parse().unwrap());
@@ -42,7 +52,7 @@ fn main() {
         smear(&mut lent, &mut rng);
         runs += 1;
         for _ in 0..rng.between(1, 40) {
-            let call = caller.call(&mut rng, &run);
+            let call = carried(caller.call(&mut rng, &run));
             let before = lent.clone();
             let file = write_map(&run.file);
             let fold = run.fold_bytes();
