@@ -22,15 +22,6 @@ ghost use Rattle.finishing.specs.Finish.{lentChecks};
 ghost use Rattle.link_plan.specs.LinkPlan.{LinkWords, linksFit};
 ghost use Rattle.links.specs.Linked.{ruleLinks, LinksChecked, RulePlanned, SetDrafted, LinksEnd, RuleEnds};
 
-fn refused(r: Refusal, tally: Tally) -> Answered
-    ensures { λ a. ⌜ (a .called ≡ Called.Refused r) × (a .tally ≡ tally) ⌝ }
-{
-    Answered {
-        called: Called::Refused(r),
-        tally,
-    }
-}
-
 // 2 for a rule that the map lacks, then the checks of the lists.
 fn check_links(
     words: &[u64],
@@ -95,7 +86,7 @@ fn carry_out(
     draft_set(&mut draft, same, rule);
     let settled = finishing::settle(fold, &mut draft, false);
     if let Checked::Refused(r) = settled {
-        return refused(r, tally);
+        return finishing::refused(r, tally);
     }
     finishing::copy_set(set, &draft);
     link_plan::put::links_put(words, i, lanes, crosswalks, lines);
@@ -122,11 +113,11 @@ fn link_rule(
 {
     let f = lookup::find(words, 5, rule);
     let Found::At(i) = f else {
-        return refused(Refusal::Unknown(8, rule), tally);
+        return finishing::refused(Refusal::Unknown(8, rule), tally);
     };
     let plan = rule_plan(words, i, lanes.len(), crosswalks.len(), lines);
     if let Checked::Refused(r) = plan {
-        return refused(r, tally);
+        return finishing::refused(r, tally);
     }
     carry_out(
         words,
@@ -158,11 +149,11 @@ pub fn set_regulatory_links(
 {
     let lent = finishing::check_lent(words, coords, fold, tally, set);
     if let Checked::Refused(r) = lent {
-        return refused(r, tally);
+        return finishing::refused(r, tally);
     }
     let known = check_links(words, rule, lanes, crosswalks, stop_lines);
     if let Checked::Refused(r) = known {
-        return refused(r, tally);
+        return finishing::refused(r, tally);
     }
     let a = sorted_of(lanes);
     let b = sorted_of(crosswalks);

@@ -26,6 +26,7 @@ use Rattle.changes.specs.Running.{State, opening}
 use Rattle.files.specs.declared.Opened.{Opened}
 use Rattle.files.specs.declared.Opened.the-variants as O
 use Rattle.files.specs.declared.Written.{Written}
+use Rattle.files.specs.declared.Written.the-variants as W
 use Rattle.files.specs.Files.{readMap, putIn, writeChanges}
 use Rattle.files.specs.OpenInto.{MapOpened, openInto}
 use Rattle.files.specs.WriteOut.{FileWritten, writeSet, ChangesWritten}
@@ -48,9 +49,9 @@ module _ (file : Bytes) (rows : List (Option Edit)) (ws : List ℕ) (cs : List F
   old = lent ws cs fs noTally set
 
   -- refused for a length
-  pub lengths-refused : (x : Refusal) (w : Written) → refusedAs x ≡ runAnswer rows old answers → OpenedLeft file rows old answers buffer (R.Refused x) w old answers buffer
+  pub lengths-refused : (x : Refusal) → refusedAs x ≡ runAnswer rows old answers → OpenedLeft file rows old answers buffer (R.Refused x) (W.Refused x) old answers buffer
   unfolding openedAnswer
-  lengths-refused x w h = record { answer = rw (← h); left = λ m q e. clash refl q; kept = λ q. (refl, refl, refl) }
+  lengths-refused x h = record { answer = rw (← h); left = λ m q e. clash refl q; kept = λ q. (refl, refl, refl); unwritten = λ y q. cc }
 
   module _ (n : ℕ) (h : done n ≡ runAnswer rows old answers) (f : Fitting old) where
     -- opening goes by the file alone
@@ -58,13 +59,14 @@ module _ (file : Bytes) (rows : List (Option Edit)) (ws : List ℕ) (cs : List F
     into-read = rw (eq-eqb _ allWords (f .words), eq-eqb _ allCoords (f .coords), eq-eqb _ setWords (f .fold))
 
     -- refused for the file
-    pub file-refused : (x : Refusal) (w : Written) (ws′ : List ℕ) (cs′ : List Float) (fs′ : List ℕ) → MapOpened file ws cs fs (O.Refused x) ws′ cs′ fs′
-        → OpenedLeft file rows old answers buffer (R.Refused x) w (lent ws′ cs′ fs′ noTally set) answers buffer
+    pub file-refused : (x : Refusal) (ws′ : List ℕ) (cs′ : List Float) (fs′ : List ℕ) → MapOpened file ws cs fs (O.Refused x) ws′ cs′ fs′
+        → OpenedLeft file rows old answers buffer (R.Refused x) (W.Refused x) (lent ws′ cs′ fs′ noTally set) answers buffer
     unfolding openedAnswer
-    file-refused x w ws′ cs′ fs′ o = record {
+    file-refused x ws′ cs′ fs′ o = record {
       answer = rw (← h) (go (readMap file) (o .is ∙ into-read));
       left = λ m q e. clash refl q;
       kept = λ q. (λ i. lent (o .untouched .0 i) (o .untouched .1 i) (o .untouched .2 i) noTally set, refl, refl);
+      unwritten = λ y q. cc;
     }
       where
         go : (a : Answer Map) → refusedAs x ≡ (a >>= λ m. done (opening m)) → refusedAs x ≡ (a >> done n)
@@ -84,6 +86,7 @@ module _ (file : Bytes) (rows : List (Option Edit)) (ws : List ℕ) (cs : List F
       answer = rw (← h) (there (readMap file) (o .is ∙ into-read));
       left = λ m q e. left m e (begun m e);
       kept = λ q. clash q refl;
+      unwritten = λ y q. cc;
     }
       where
         there : (a : Answer Map) → done (stateOf (lent ws′ cs′ fs′ t set)) ≡ (a >>= λ m. done (opening m)) → done n ≡ (a >> done n)
@@ -116,19 +119,19 @@ module _ (file : Bytes) (f : ℕ → Option Edit) (k : ℕ) (ws : List ℕ) (cs 
   as-rows a h = rw (length-listTo f k) h
 
   pub out-for-lengths : (x : Refusal) (r : Ran) (w : Written) (t : Tally) → refusedAs x ≡ lengthsAnswer (length ws) (length cs) (length fs) (length set) (length answers) k
-      → r ≡ R.Refused x → t ≡ noTally
+      → (r ≡ R.Refused x) × (t ≡ noTally) × (w ≡ W.Refused x)
       → OpenedLeft file (listTo f k) (lent ws cs fs noTally set) answers buffer r w (lent ws cs fs t set) answers buffer
-  out-for-lengths x r w t h p q = rw (p, q) (lengths-refused file (listTo f k) ws cs fs set answers buffer x w (as-rows _ h))
+  out-for-lengths x r w t h p = rw (p .0, p .1, p .2) (lengths-refused file (listTo f k) ws cs fs set answers buffer x (as-rows _ h))
 
   module _ (n : ℕ) (h : done n ≡ lengthsAnswer (length ws) (length cs) (length fs) (length set) (length answers) k) where
     fit : Fitting (lent ws cs fs noTally set)
     fit = lengths-fit (lent ws cs fs noTally set) (length answers) k n h .tables
 
     pub out-for-file : (o : Opened) (x : Refusal) (r : Ran) (w : Written) (t : Tally) (ws′ : List ℕ) (cs′ : List Float) (fs′ : List ℕ)
-        → MapOpened file ws cs fs o ws′ cs′ fs′ → o ≡ O.Refused x → r ≡ R.Refused x → t ≡ noTally
+        → MapOpened file ws cs fs o ws′ cs′ fs′ → o ≡ O.Refused x → (r ≡ R.Refused x) × (t ≡ noTally) × (w ≡ W.Refused x)
         → OpenedLeft file (listTo f k) (lent ws cs fs noTally set) answers buffer r w (lent ws′ cs′ fs′ t set) answers buffer
-    out-for-file o x r w t ws′ cs′ fs′ m e p q =
-        rw (p, q) (file-refused file (listTo f k) ws cs fs set answers buffer n (as-rows _ h) fit x w ws′ cs′ fs′ (subst (λ (y : Opened). MapOpened file ws cs fs y ws′ cs′ fs′) e m))
+    out-for-file o x r w t ws′ cs′ fs′ m e p =
+        rw (p .0, p .1, p .2) (file-refused file (listTo f k) ws cs fs set answers buffer n (as-rows _ h) fit x ws′ cs′ fs′ (subst (λ (y : Opened). MapOpened file ws cs fs y ws′ cs′ fs′) e m))
 
     pub all-done : (o : Opened) (t : Tally) (ws′ : List ℕ) (cs′ : List Float) (fs′ : List ℕ) (new : Lent) (answers′ : List ℕ) (w : Written) (buffer′ : List ℕ)
         → MapOpened file ws cs fs o ws′ cs′ fs′ → o ≡ O.Done t → RunLeft (listTo f n) (lent ws′ cs′ fs′ t set) answers (R.Done n) new answers′

@@ -12,13 +12,16 @@ use Rattle.map.specs.Record.{Map}
 use Rattle.changes.specs.ChangeFile.{changeFile}
 use Rattle.changes.specs.Layout.{changeSetOf}
 use Rattle.changes.specs.Running.{opening}
+use Rattle.refusal.specs.declared.Refusal.{Refusal}
 use Rattle.files.specs.declared.Written.{Written}
+use Rattle.files.specs.declared.Written.the-variants as W
 use Rattle.files.specs.Files.{readMap, putIn}
 use Rattle.files.specs.WriteOut.{FileWritten}
 use Rattle.edit.specs.Lent.{Lent, stateOf}
 use Rattle.run.specs.Run.{Edit, runAll, setsOf, calls}
 use Rattle.run.specs.Law.{RunLaw}
 use Rattle.call_list.specs.declared.Ran.{Ran}
+use Rattle.call_list.specs.declared.Ran.the-variants as R
 use Rattle.call_list.specs.Rows.{editsOf}
 use Rattle.call_list.specs.Ran.{ran, runAnswer, isRefused, replies, lastSet}
 
@@ -48,3 +51,5 @@ pub record OpenedLeft (file : Bytes) (rows : List (Option Edit)) (old : Lent) (a
   pub left : (m : Map) → isRefused r ≡ false → readMap file ≡ done m → LeftByRun m rows old answers buffer w new answers′ buffer′
   -- refused, nothing is altered
   pub kept : isRefused r ≡ true → (new ≡ old) × (answers′ ≡ answers) × (buffer′ ≡ buffer)
+  -- and what is answered of the writing is that refusal
+  pub unwritten : (x : Refusal) → r ≡ R.Refused x → w ≡ W.Refused x

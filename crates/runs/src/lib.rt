@@ -139,7 +139,7 @@ pub fn run_opened(
 
 // A run that was refused wrote nothing.
 fn not_opened(x: Refusal) -> OpenedRun
-    ensures { λ r. ⌜ (r .ran ≡ Ran.Refused x) × (r .tally ≡ noTally) ⌝ }
+    ensures { λ r. ⌜ (r .ran ≡ Ran.Refused x) × (r .tally ≡ noTally) × (r .written ≡ Written.Refused x) ⌝ }
 {
     OpenedRun {
         ran: Ran::Refused(x),

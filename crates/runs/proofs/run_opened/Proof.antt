@@ -56,7 +56,7 @@ same-length-5 c = search needs
 
 returns : tie.Need-returns
 unfolding rowsIn
-returns c = out-for-lengths _ _ _ _ _ _ _ _ _ _ _ _ _ (sym (ap ran (c .before .before .checked .given .1)) ∙ c .before .before .before .before .check-run .ensures) (c .not-opened .ensures .0) (c .not-opened .ensures .1)
+returns c = out-for-lengths _ _ _ _ _ _ _ _ _ _ _ _ _ (sym (ap ran (c .before .before .checked .given .1)) ∙ c .before .before .before .before .check-run .ensures) (c .not-opened .ensures)
 
 same-length-6 : tie.Need-same-length-6
 same-length-6 c = search needs
@@ -75,7 +75,7 @@ same-length-10 c = search needs
 
 returns-2 : tie.Need-returns-2
 unfolding rowsIn
-returns-2 c = out-for-file _ _ _ _ _ _ _ _ _ _ (sym (ap ran (c .before .before .before .before .before .before .before .before .before .before .before .before .before .before .before .checked2 .given .1)) ∙ c .before .before .before .before .before .before .before .before .before .before .before .before .before .before .before .before .before .check-run .ensures) _ _ _ _ _ _ _ _ (c .before .before .before .before .before .before .before .before .before .before .open-map .ensures) (c .before .before .opened .given .1) (c .not-opened2 .ensures .0) (c .not-opened2 .ensures .1)
+returns-2 c = out-for-file _ _ _ _ _ _ _ _ _ _ (sym (ap ran (c .before .before .before .before .before .before .before .before .before .before .before .before .before .before .before .checked2 .given .1)) ∙ c .before .before .before .before .before .before .before .before .before .before .before .before .before .before .before .before .before .check-run .ensures) _ _ _ _ _ _ _ _ (c .before .before .before .before .before .before .before .before .before .before .open-map .ensures) (c .before .before .opened .given .1) (c .not-opened2 .ensures)
 
 same-length-11 : tie.Need-same-length-11
 same-length-11 c = search needs
