@@ -1,5 +1,6 @@
 // The tests of one row: whether its kinds, flags, counts and coordinates are those of a record.
 ghost use mathlib.Core.Path.{_≡_};
+ghost use mathlib.Core.Bool.{_&&_};
 ghost use Prim.Native.Nat.{_+_, _*_, _≤_, _<_};
 ghost use lib.ListN.{length, getD};
 ghost use Rattle.rows.specs.Lists.{every};
@@ -18,21 +19,27 @@ pub fn coord_ok(x: f64) -> bool
     false
 }
 
-// The n coordinates from index at on.
+fn both(a: bool, b: bool) -> bool
+    ensures { λ r. ⌜ r ≡ (a && b) ⌝ }
+{
+    if a {
+        return b;
+    }
+    false
+}
+
+// The n coordinates from index at on. Nearly always all are good: a loop without a way out is several at a time.
 pub fn coords_ok(coords: &[f64], at: usize, n: usize) -> bool
     requires { ⌜ at + n ≤ length (now coords) ⌝ }
     ensures { λ r. ⌜ r ≡ every goodCoord (cut (now (coords .entry)) at n) ⌝ }
 {
+    let mut good = true;
     let mut i = 0;
-    let mut j = at;
     while i < n {
-        if !coord_ok(coords[j]) {
-            return false;
-        }
+        good = both(good, coord_ok(coords[at + i]));
         i += 1;
-        j += 1;
     }
-    true
+    good
 }
 
 // A polyline of n points, from index at on: there is room for 64.
