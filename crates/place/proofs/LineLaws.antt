@@ -16,8 +16,10 @@ use Rattle.rows.specs.Table.{find}
 use Rattle.rows.specs.Rows.{pasted}
 use Rattle.rows.proofs.RowLaws.{getD-in}
 use Rattle.rows.proofs.Indexed.{length-listTo, listTo-same}
+use Rattle.geometry.specs.declared.Point2.{Point2}
 use Rattle.geometry.specs.declared.Point3.{Point3}
-use Rattle.geometry.specs.Polyline.{Polyline, pointIn, polylineOf, reversed, middle, centerline}
+use Rattle.geometry.specs.declared.NearestPoint.{NearestPoint}
+use Rattle.geometry.specs.Polyline.{Polyline, pointIn, polylineOf, reversed, middle, centerline, nearestPoint}
 use Rattle.polyline.proofs.Lines.{length-points}
 use Rattle.centerline.specs.declared.Line.{Line}
 use Rattle.centerline.specs.Line.{pointsOf, lineOption}
@@ -34,7 +36,7 @@ use Rattle.map.proofs.ReadLaws.{found-index, found-record, none-record, lane-nu
 use Rattle.place.specs.declared.MaybeLine.{MaybeLine}
 use Rattle.place.specs.Place.{between, centerlineOf, laneCenterline}
 use Rattle.place.specs.Readable.{ReadableWords, Readable}
-use Rattle.place.specs.Values.{maybeLine, Roomy, LineRead, sideOf}
+use Rattle.place.specs.Values.{maybeLine, Roomy, LineRead, sideOf, betweenSides, nearestIn}
 
 -- ---- points as coordinates
 
@@ -113,6 +115,12 @@ oriented-found : (m : Map) (x : ℕ) (t : Bool) (b : LineString) → boundaryOf 
 unfolding oriented
 oriented-found m x t b e = ap (λ (o : Option LineString). elim o [ none ↦ none | some d ↦ some (cond t (reversed (d .geometry)) (d .geometry)) ]) e
 
+pub nearest-none : (ws : List ℕ) (cs : List Float) (x : ℕ) (t : Bool) (p : Point2) (r : Found) → r ≡ lookup ws 1 x → r ≡ Nothing → none ≡ nearestIn (oriented (mapOf ws cs) (sideOf x t)) p
+unfolding oriented boundaryOf mapOf
+nearest-none ws cs x t p r e f =
+    let n = none-record (λ (l : LineString). l .num) lineStringIn line-number ws cs 1 (omega arith) x (sym e ∙ f) in
+    sym (ap (λ (o : Option LineString). nearestIn (elim o [ none ↦ none | some d ↦ some (cond t (reversed (d .geometry)) (d .geometry)) ]) p) n)
+
 pub oriented-none : (ws : List ℕ) (cs : List Float) (x : ℕ) (t : Bool) (r : Found) (a : MaybeLine) → r ≡ lookup ws 1 x → r ≡ Nothing → LineRead none a
     → LineRead (oriented (mapOf ws cs) (sideOf x t)) a
 unfolding oriented boundaryOf mapOf
@@ -122,6 +130,11 @@ oriented-none ws cs x t r a e f h =
       answer = h .answer ∙ sym (ap (λ (o : Option LineString). elim o [ none ↦ none | some d ↦ some (cond t (reversed (d .geometry)) (d .geometry)) ]) n);
       room = h .room;
     }
+
+-- the points of boundary x, which stand in s
+pub record Along (ws : List ℕ) (cs : List Float) (x : ℕ) (s : List Float) : Type 0 where
+  pub is : oriented (mapOf ws cs) (sideOf x false) ≡ some (polylineOf s)
+  pub few : length (polylineOf s) ≤ 64
 
 module _ (ws : List ℕ) (cs : List Float) (ok : Readable ws cs) (x i : ℕ) (r : Found) (e : r ≡ lookup ws 1 x) (f : r ≡ At i) where
   pub boundary-word : SizedWords ws × (1 < 6) × (i < limitOf 1) × (1 < widthOf 1)
@@ -158,6 +171,19 @@ module _ (ws : List ℕ) (cs : List Float) (ok : Readable ws cs) (x i : ℕ) (r 
       pub side-along : (t : Bool) (l : Line) → length (l .coords) ≡ 192 → t ≡ false → pointsOf l ≡ polylineOf s → LineRead (oriented (mapOf ws cs) (sideOf x t)) (record { there = true; line = l })
       side-along t l w q h = record { answer = rw (oriented-is t, q, h); room = record { few = count-few l _ h points-few; long = w } }
 
+      pub nearest-reversed : (t : Bool) (l : Line) (p : Point2) (o : Option NearestPoint) → t ≡ true → pointsOf l ≡ reversed (polylineOf s) → o ≡ nearestPoint (pointsOf l) p
+          → some o ≡ nearestIn (oriented (mapOf ws cs) (sideOf x t)) p
+      nearest-reversed t l p o q h k = rw (oriented-is t, q, k, h)
+
+      pub reversed-room : (l : Line) → length (l .coords) ≡ 192 → pointsOf l ≡ reversed (polylineOf s) → Roomy l
+      reversed-room l w h = record { few = count-few l _ h (omega (arith, length-reversed (polylineOf s), points-few)); long = w }
+
+      pub nearest-along : (t : Bool) (p : Point2) (o : Option NearestPoint) → t ≡ false → o ≡ nearestPoint (polylineOf s) p → some o ≡ nearestIn (oriented (mapOf ws cs) (sideOf x t)) p
+      nearest-along t p o q k = rw (oriented-is t, q, k)
+
+      pub stands-along : Along ws cs x s
+      stands-along = record { is = oriented-is false; few = points-few }
+
 -- ---- between the sides
 
 flip : {A : Type 0} (b : Bool) (x y : A) → cond (not b) x y ≡ cond b y x
@@ -172,6 +198,18 @@ center-few (x ∷ xs) (y ∷ ys) zs e h k =
     let n : ℕ = max 2 (max (suc (length xs)) (suc (length ys))) in
     let q : listTo (middle (x ∷ xs) (y ∷ ys) n) n ≡ zs = cc in
     omega (arith, ap length q, length-listTo (middle (x ∷ xs) (y ∷ ys) n) n)
+
+-- a line that was made of two
+pub between-lines : (xs ys : Polyline) (c : Line) → lineOption c ≡ centerline xs ys → length xs ≤ 64 → length ys ≤ 64 → length (c .coords) ≡ 192
+    → LineRead (between (some xs) (some ys)) (record { there = not (eqb (c .count) 0); line = c })
+unfolding between lineOption
+between-lines xs ys c e h k w = record { answer = flip (eqb (c .count) 0) _ _ ∙ e; room = record { few = few (eqb (c .count) 0) refl; long = w } }
+  where
+    few : (z : Bool) → eqb (c .count) 0 ≡ z → c .count ≤ 64
+    few true q = let k = eqb-true (c .count) 0 q in omega arith
+    few false q =
+        let f : centerline xs ys ≡ some (pointsOf c) = sym e ∙ rw q in
+        count-few c (pointsOf c) refl (center-few xs ys (pointsOf c) f h k)
 
 module _ (a b : MaybeLine) where
   pub no-left : (r : MaybeLine) → not (a .there) ≡ true → LineRead none r → LineRead (between (maybeLine a) (maybeLine b)) r
@@ -192,30 +230,50 @@ module _ (a b : MaybeLine) where
       omega (arith, rb .few, rb .long, part-long (b .line .coords) (b .line .count) (omega (arith, rb .few, rb .long))),
     )
 
-    module _ (c : Line)
-        (e : lineOption c ≡ centerline (polylineOf (take (a .line .count * 3) (a .line .coords))) (polylineOf (take (b .line .count * 3) (b .line .coords)))) where
-      made : lineOption c ≡ centerline (pointsOf (a .line)) (pointsOf (b .line))
-      made = e ∙ ap₂ centerline (line-part (a .line) ra) (line-part (b .line) rb)
+    pub between-made : (c : Line)
+        → lineOption c ≡ centerline (polylineOf (take (a .line .count * 3) (a .line .coords))) (polylineOf (take (b .line .count * 3) (b .line .coords)))
+        → length (c .coords) ≡ 192 → not (a .there) ≡ false → not (b .there) ≡ false
+        → LineRead (between (maybeLine a) (maybeLine b)) (record { there = not (eqb (c .count) 0); line = c })
+    between-made c e w s t =
+        let f = not-false (a .there) s in
+        let g = not-false (b .there) t in
+        rw (f, g) (between-lines (pointsOf (a .line)) (pointsOf (b .line)) c (e ∙ ap₂ centerline (line-part (a .line) ra) (line-part (b .line) rb))
+        (omega (arith, length-line-points (a .line), ra .few)) (omega (arith, length-line-points (b .line), rb .few)) w)
 
-      made-there : a .there ≡ true → b .there ≡ true → cond (not (eqb (c .count) 0)) (some (pointsOf c)) none ≡ between (maybeLine a) (maybeLine b)
-      unfolding between lineOption
-      made-there f g = flip (eqb (c .count) 0) _ _ ∙ rw (f, g) made
+-- ---- between sides that are read where they stand
 
-      made-few : (z : Bool) → eqb (c .count) 0 ≡ z → c .count ≤ 64
-      unfolding lineOption
-      made-few true q = let k = eqb-true (c .count) 0 q in omega arith
-      made-few false q =
-          let k : centerline (pointsOf (a .line)) (pointsOf (b .line)) ≡ some (pointsOf c) = sym made ∙ rw q in
-          count-few c (pointsOf c) refl (center-few (pointsOf (a .line)) (pointsOf (b .line)) (pointsOf c) k
-          (omega (arith, length-line-points (a .line), ra .few)) (omega (arith, length-line-points (b .line), rb .few)))
+side-missing : (ws : List ℕ) (cs : List Float) (x : ℕ) (t : Bool) (r : Found) → r ≡ lookup ws 1 x → r ≡ Nothing → oriented (mapOf ws cs) (sideOf x t) ≡ none
+unfolding oriented boundaryOf mapOf
+side-missing ws cs x t r e f =
+    let n = none-record (λ (l : LineString). l .num) lineStringIn line-number ws cs 1 (omega arith) x (sym e ∙ f) in
+    ap (λ (o : Option LineString). elim o [ none ↦ none | some d ↦ some (cond t (reversed (d .geometry)) (d .geometry)) ]) n
 
-      pub between-made : length (c .coords) ≡ 192 → not (a .there) ≡ false → not (b .there) ≡ false
-          → LineRead (between (maybeLine a) (maybeLine b)) (record { there = not (eqb (c .count) 0); line = c })
-      between-made w s t =
-          record {
-            answer = made-there (not-false (a .there) s) (not-false (b .there) t);
-            room = record { few = made-few (eqb (c .count) 0) refl; long = w };
-          }
+module _ (ws : List ℕ) (cs : List Float) (x y : ℕ) (a : MaybeLine) (h : LineRead none a) where
+  pub along-no-left : (r : Found) → r ≡ lookup ws 1 x → r ≡ Nothing → LineRead (between (oriented (mapOf ws cs) (sideOf x false)) (oriented (mapOf ws cs) (sideOf y false))) a
+  unfolding between
+  along-no-left r e f = rw (side-missing ws cs x false r e f) h
+
+  pub along-no-right : (r : Found) → r ≡ lookup ws 1 y → r ≡ Nothing → LineRead (between (oriented (mapOf ws cs) (sideOf x false)) (oriented (mapOf ws cs) (sideOf y false))) a
+  unfolding between
+  along-no-right r e f = rw (side-missing ws cs y false r e f) (go (oriented (mapOf ws cs) (sideOf x false)))
+    where
+      go : (o : Option Polyline) → LineRead (between o none) a
+      go none = h
+      go (some l) = h
+
+pub along-made : (ws : List ℕ) (cs : List Float) (x y : ℕ) (s t : List Float) (c : Line) → Along ws cs x s → Along ws cs y t → lineOption c ≡ centerline (polylineOf s) (polylineOf t)
+    → length (c .coords) ≡ 192
+    → LineRead (between (oriented (mapOf ws cs) (sideOf x false)) (oriented (mapOf ws cs) (sideOf y false))) (record { there = not (eqb (c .count) 0); line = c })
+along-made ws cs x y s t c p q e w = rw (p .is, q .is) (between-lines (polylineOf s) (polylineOf t) c e (p .few) (q .few) w)
+
+module _ (m : Map) (row : LaneRow) (r : MaybeLine) where
+  pub turned-made : (a b : MaybeLine) → LineRead (oriented m (sideOf (row .left) (row .«left_reversed»))) a → LineRead (oriented m (sideOf (row .right) (row .«right_reversed»))) b
+      → LineRead (between (maybeLine a) (maybeLine b)) r → LineRead (betweenSides m row) r
+  turned-made a b ha hb h = record { answer = h .answer ∙ ap₂ between (ha .answer) (hb .answer); room = h .room }
+
+  pub along-sides : row .«left_reversed» ≡ false → row .«right_reversed» ≡ false → LineRead (between (oriented m (sideOf (row .left) false)) (oriented m (sideOf (row .right) false))) r
+      → LineRead (betweenSides m row) r
+  along-sides p q h = record { answer = h .answer ∙ ap₂ (λ (t u : Bool). between (oriented m (sideOf (row .left) t)) (oriented m (sideOf (row .right) u))) (sym p) (sym q); room = h .room }
 
 -- ---- a lane's centreline
 
@@ -285,11 +343,5 @@ module _ (ws : List ℕ) (cs : List Float) (ok : Readable ws cs) (x i : ℕ) (r 
               room = record { few = count-few l _ h (omega (arith, length-points s, stored-part)); long = w };
             }
 
-    pub made-line : (a b c : MaybeLine) → row .«has_centerline» ≡ false → LineRead (oriented (mapOf ws cs) (sideOf (row .left) (row .«left_reversed»))) a
-        → LineRead (oriented (mapOf ws cs) (sideOf (row .right) (row .«right_reversed»))) b → LineRead (between (maybeLine a) (maybeLine b)) c
-        → LineRead (laneCenterline (mapOf ws cs) x) c
-    made-line a b c t ha hb hc =
-        record {
-          answer = hc .answer ∙ ap₂ between (ha .answer) (hb .answer) ∙ sym (center-of-row ∙ made-is (mapOf ws cs) row (coordsOf cs 0 i) t);
-          room = hc .room;
-        }
+    pub made-line : (c : MaybeLine) → row .«has_centerline» ≡ false → LineRead (betweenSides (mapOf ws cs) row) c → LineRead (laneCenterline (mapOf ws cs) x) c
+    made-line c t h = record { answer = h .answer ∙ sym (center-of-row ∙ made-is (mapOf ws cs) row (coordsOf cs 0 i) t); room = h .room }

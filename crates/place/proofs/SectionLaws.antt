@@ -35,7 +35,7 @@ use Rattle.map.specs.Lookup.{laneOf, oriented}
 use Rattle.map.specs.Tables.{laneIn, mapOf}
 use Rattle.map.specs.Access.{lookup, LaneRead, laneOfRow}
 use Rattle.map.proofs.ReadLaws.{found-record, none-record, lane-number}
-use Rattle.place.specs.declared.MaybeLine.{MaybeLine}
+use Rattle.place.specs.declared.SideNearest.{SideNearest}
 use Rattle.place.specs.declared.SectionEnd.{SectionEnd}
 use Rattle.place.specs.declared.MaybeEnd.{MaybeEnd}
 use Rattle.place.specs.declared.MaybeEnd.the-variants as e
@@ -44,7 +44,7 @@ use Rattle.place.specs.declared.Walked.{Walked}
 use Rattle.place.specs.declared.Walked.the-variants as w
 use Rattle.place.specs.Place.{End, Ends, outer, widened, withSide, withLane, withLanes, section, crossSection, laneCenterline}
 use Rattle.place.specs.Steps.{outerLeft, outerRight, noEnds, withSides, sectionOn}
-use Rattle.place.specs.Values.{maybeLine, Roomy, LineRead, sideOf, sidesOf, endOf, maybeEnd, endsOf, walked}
+use Rattle.place.specs.Values.{Roomy, sideOf, sidesOf, sideNearest, nearestIn, endOf, maybeEnd, endsOf, walked}
 use Rattle.place.proofs.LineLaws.{line-part}
 
 -- ---- ends
@@ -73,6 +73,12 @@ pub nearest-is : (l : Line) (p : Point2) (o : Option NearestPoint) → Roomy l �
 nearest-is l p o h e = e ∙ ap (λ (xs : Polyline). nearestPoint xs p) (line-part l h)
 
 -- ---- sides
+
+none-some : {x : Option NearestPoint} → _≡_ {A = Option (Option NearestPoint)} none (some x) → ⊥
+none-some e = let z : _≡_ {A = ℕ} 0 1 = cc in omega arith
+
+some-same : {x y : Option NearestPoint} → some x ≡ some y → x ≡ y
+some-same e = cc
 
 module _ (row : LaneRow) (k : ℕ) where
   pub side-left : k ≡ 0 → sideOf (row .left) (row .«left_reversed») ≡ getD (sidesOf row) k (sideOf 0 false)
@@ -107,35 +113,42 @@ module _ (m : Map) (p : Point3) (normal : Point2) (row : LaneRow) (first es : En
   unfolding withSides
   siding-end h = sym (inv .goes ∙ rw (drop-of-length-le (sidesOf row) h))
 
-  module _ (h : k < 2) (n : ℕ) (r : Bool) (e : sideOf n r ≡ getD (sidesOf row) k (sideOf 0 false)) (b : MaybeLine) (read : LineRead (oriented m (sideOf n r)) b) where
+  module _ (h : k < 2) (n : ℕ) (r : Bool) (e : sideOf n r ≡ getD (sidesOf row) k (sideOf 0 false)) (q : Point2) (eq : q ≡ xy p)
+      (b : SideNearest) (read : sideNearest b ≡ nearestIn (oriented m (sideOf n r)) q) where
     step : withSides m p normal (sidesOf row) first ≡ (withSide m p normal (sideOf n r) es >>= λ one. withSides m p normal (drop (suc k) (sidesOf row)) one)
     unfolding withSides
     step = inv .goes ∙ rw (drop-cons (sidesOf row) k (sideOf 0 false) h, ← e)
 
-    pub siding-missing : not (b .there) ≡ true → refused 6 (4 ∷ []) ≡ withSides m p normal (sidesOf row) first
-    siding-missing t =
-        let f = not-true (b .there) t in
-        let g : oriented m (sideOf n r) ≡ none = sym (read .answer) ∙ rw f in
-        sym (step ∙ rw (side-none m p normal (sideOf n r) es g))
+    missing : (o : Option Polyline) → oriented m (sideOf n r) ≡ o → b .there ≡ false → sideNearest b ≡ nearestIn o q → withSide m p normal (sideOf n r) es ≡ refused 6 (4 ∷ [])
+    missing none g f w = side-none m p normal (sideOf n r) es g
+    missing (some l) g f w = absurd (none-some (sym (ap (λ (t : Bool). cond t (some (maybeNearest (b .nearest))) none) f) ∙ w))
 
-    next : (o : Option NearestPoint) → not (b .there) ≡ false → o ≡ nearestPoint (pointsOf (b .line)) (xy p) → Siding m p normal row first (widened p normal o es) (k + 1)
-    next o t q =
-        let f = not-false (b .there) t in
-        let g : oriented m (sideOf n r) ≡ some (pointsOf (b .line)) = sym (read .answer) ∙ rw f in
+    pub siding-missing : not (b .there) ≡ true → refused 6 (4 ∷ []) ≡ withSides m p normal (sidesOf row) first
+    siding-missing t = sym (step ∙ rw (missing (oriented m (sideOf n r)) refl (not-true (b .there) t) read))
+
+    one : (o : Option Polyline) → oriented m (sideOf n r) ≡ o → b .there ≡ true → sideNearest b ≡ nearestIn o q
+        → withSide m p normal (sideOf n r) es ≡ done (widened p normal (maybeNearest (b .nearest)) es)
+    one none g f w = absurd (none-some (sym w ∙ ap (λ (t : Bool). cond t (some (maybeNearest (b .nearest))) none) f))
+    one (some l) g f w =
+        side-some m p normal (sideOf n r) es l g
+        ∙ ap (λ (o : Option NearestPoint). done (widened p normal o es)) (sym (some-same (sym (ap (λ (t : Bool). cond t (some (maybeNearest (b .nearest))) none) f) ∙ w) ∙ ap (nearestPoint l) eq))
+
+    next : (o : Option NearestPoint) → not (b .there) ≡ false → maybeNearest (b .nearest) ≡ o → Siding m p normal row first (widened p normal o es) (k + 1)
+    next o t w =
         record {
           within = omega arith;
           goes =
-              step ∙ rw (side-some m p normal (sideOf n r) es (pointsOf (b .line)) g, ← q)
+              step ∙ rw (one (oriented m (sideOf n r)) refl (not-false (b .there) t) read, w)
               (ap (λ (j : ℕ). withSides m p normal (drop j (sidesOf row)) (widened p normal o es)) (sym (add-one k)));
         }
 
-    module _ (t : not (b .there) ≡ false) (q : Point2) (eq : q ≡ xy p) (o : MaybeNearest) (eo : maybeNearest o ≡ nearestPoint (pointsOf (b .line)) q) where
-      pub siding-past : o ≡ near.Nothing → Siding m p normal row first es (k + 1)
+    module _ (t : not (b .there) ≡ false) where
+      pub siding-past : b .nearest ≡ near.Nothing → Siding m p normal row first es (k + 1)
       unfolding widened
-      siding-past z = next none t (sym (ap maybeNearest z) ∙ eo ∙ ap (nearestPoint (pointsOf (b .line))) eq)
+      siding-past z = next none t (ap maybeNearest z)
 
-      pub siding-taken : (c : NearestPoint) (es′ : Ends) → o ≡ near.At c → es′ ≡ widened p normal (some c) es → Siding m p normal row first es′ (k + 1)
-      siding-taken c es′ z y = rw y (next (some c) t (sym (ap maybeNearest z) ∙ eo ∙ ap (nearestPoint (pointsOf (b .line))) eq))
+      pub siding-taken : (c : NearestPoint) (es′ : Ends) → b .nearest ≡ near.At c → es′ ≡ widened p normal (some c) es → Siding m p normal row first es′ (k + 1)
+      siding-taken c es′ z y = rw y (next (some c) t (ap maybeNearest z))
 
 -- ---- lanes
 

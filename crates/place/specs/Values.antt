@@ -5,13 +5,18 @@ use mathlib.Core.Bool.{Bool, cond}
 use lib.ListN.{length}
 use mathlib.Core.List.{List, [], _∷_}
 use mathlib.Core.Option.{Option, none, some}
-use Rattle.geometry.specs.Polyline.{Polyline}
+use Rattle.geometry.specs.declared.Point2.{Point2}
+use Rattle.geometry.specs.declared.NearestPoint.{NearestPoint}
+use Rattle.geometry.specs.Maybe.{maybeNearest}
+use Rattle.geometry.specs.Polyline.{Polyline, nearestPoint}
 use Rattle.centerline.specs.declared.Line.{Line}
 use Rattle.centerline.specs.Line.{pointsOf}
 use Rattle.refusal.specs.Answer.{Answer, refused, done, refusedAs}
-use Rattle.map.specs.Record.{BoundaryRef}
+use Rattle.map.specs.Record.{BoundaryRef, Map}
+use Rattle.map.specs.Lookup.{oriented}
 use Rattle.map.specs.declared.LaneRow.{LaneRow}
 use Rattle.place.specs.declared.MaybeLine.{MaybeLine}
+use Rattle.place.specs.declared.SideNearest.{SideNearest}
 use Rattle.place.specs.declared.SectionEnd.{SectionEnd}
 use Rattle.place.specs.declared.MaybeEnd.{MaybeEnd}
 use Rattle.place.specs.declared.MaybeEnd.the-variants as e
@@ -21,7 +26,7 @@ use Rattle.place.specs.declared.Walked.the-variants as w
 use Rattle.place.specs.declared.CrossSection.{CrossSection}
 use Rattle.place.specs.declared.MaybeSection.{MaybeSection}
 use Rattle.place.specs.declared.MaybeSection.the-variants as s
-use Rattle.place.specs.Place.{End, Ends}
+use Rattle.place.specs.Place.{End, Ends, between}
 
 -- ---- lines that may be missing
 
@@ -45,6 +50,18 @@ sideOf n r = record { boundary = n; reversed = r }
 -- the left one, then the right one
 abbrev pub sidesOf : LaneRow → List BoundaryRef
 sidesOf r = sideOf (r .left) (r .«left_reversed») ∷ sideOf (r .right) (r .«right_reversed») ∷ []
+
+-- the line between both
+abbrev pub betweenSides : Map → LaneRow → Option Polyline
+betweenSides m r = between (oriented m (sideOf (r .left) (r .«left_reversed»))) (oriented m (sideOf (r .right) (r .«right_reversed»)))
+
+-- the nearest point of a side: none where its boundary is missing, and none of its points where it has none
+abbrev pub sideNearest : SideNearest → Option (Option NearestPoint)
+sideNearest r = cond (r .there) (some (maybeNearest (r .nearest))) none
+
+abbrev pub nearestIn : Option Polyline → Point2 → Option (Option NearestPoint)
+nearestIn none p = none
+nearestIn (some l) p = some (nearestPoint l p)
 
 -- ---- the cross-section
 

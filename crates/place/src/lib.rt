@@ -3,6 +3,7 @@
 pub mod lines; // lines.rt: a side of a lane, and its centreline
 pub mod section; // section.rt: the cross-section
 
+use geometry::MaybeNearest;
 use geometry::Point3;
 use refusal::Refusal;
 
@@ -25,6 +26,12 @@ pub struct MaybeLine {
 pub struct Side {
     pub number: u64,
     pub reversed: bool,
+}
+
+// The nearest point of a side, whose boundary may be missing or without points.
+pub struct SideNearest {
+    pub there: bool,
+    pub nearest: MaybeNearest,
 }
 
 // How far to the left a boundary's nearest point lies, and that point.

@@ -5,8 +5,8 @@ use crate::MaybeSection;
 use crate::SectionEnd;
 use crate::SectionEnds;
 use crate::Side;
+use crate::SideNearest;
 use crate::Walked;
-use crate::lines::oriented;
 use centerline::Line;
 use geometry::MaybeNearest;
 use geometry::MaybePoint2;
@@ -30,11 +30,12 @@ ghost use lib.ListN.{getD};
 ghost use Rattle.geometry.specs.Maybe.{maybeNearest};
 ghost use Rattle.geometry.specs.Polyline.{polylineOf, nearestPoint};
 ghost use Rattle.centerline.specs.Line.{pointsOf};
+ghost use Rattle.map.specs.Lookup.{oriented};
 ghost use Rattle.map.specs.Tables.{mapOf};
 ghost use Rattle.place.specs.Place.{widened, withLane, withLanes, section};
 ghost use Rattle.place.specs.Readable.{Readable};
 ghost use Rattle.place.specs.Steps.{outerLeft, outerRight, noEnds, withSides, sectionOn};
-ghost use Rattle.place.specs.Values.{Roomy, sideOf, sidesOf, endOf, maybeEnd, endsOf, walked, sectionAnswer};
+ghost use Rattle.place.specs.Values.{Roomy, sideOf, sidesOf, sideNearest, nearestIn, endOf, maybeEnd, endsOf, walked, sectionAnswer};
 
 // The end that lies farther to the left; on equal values the earlier one stays.
 fn outer_left(best: MaybeEnd, e: SectionEnd) -> MaybeEnd
@@ -89,6 +90,38 @@ pub fn nearest_of(line: Line, p: Point2) -> MaybeNearest
     polyline::nearest::nearest_point(&coords[..e], p)
 }
 
+// The same of a boundary along the lane. Only one that runs against the lane is copied.
+fn nearest_side(
+    words: &[u64],
+    coords: &[f64],
+    number: u64,
+    reversed: bool,
+    p: Point2,
+) -> SideNearest
+    requires { ⌜ Readable (now words) (now coords) ⌝ }
+    ensures { λ r. ⌜ sideNearest r ≡ nearestIn (oriented (mapOf (now (words .entry)) (now (coords .entry))) (sideOf number reversed)) p ⌝ }
+{
+    let Found::At(i) = lookup::find(words, 1, number) else {
+        return SideNearest {
+            there: false,
+            nearest: MaybeNearest::Nothing,
+        };
+    };
+    let n = rows::index(lookup::word(words, 1, i, 1));
+    let cs = lookup::points(coords, 1, i, 0, n);
+    if reversed {
+        let line = centerline::reversed::reversed(cs);
+        return SideNearest {
+            there: true,
+            nearest: nearest_of(line, p),
+        };
+    }
+    SideNearest {
+        there: true,
+        nearest: polyline::nearest::nearest_point(cs, p),
+    }
+}
+
 fn side_of(row: LaneRow, k: usize) -> Side
     requires { ⌜ k < 2 ⌝ }
     ensures { λ r. ⌜ sideOf (r .number) (r .reversed) ≡ getD (sidesOf row) k (sideOf 0 false) ⌝ }
@@ -122,12 +155,12 @@ fn with_sides(
     while k < 2 {
         let s = side_of(row, k);
         k += 1;
-        let b = oriented(words, coords, s.number, s.reversed);
+        let b = nearest_side(words, coords, s.number, s.reversed, flat(p));
         if !b.there {
             return Walked::Missing;
         }
-        let line = b.line;
-        let MaybeNearest::At(n) = nearest_of(line, flat(p)) else {
+        let nearest = b.nearest;
+        let MaybeNearest::At(n) = nearest else {
             continue;
         };
         ends = widened(p, normal, n, ends);

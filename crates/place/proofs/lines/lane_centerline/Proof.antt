@@ -40,17 +40,11 @@ copied-requires c κs = stored-part _ _ (c .before .before .before .before .befo
 returns-2 : tie.Need-returns-2
 returns-2 c = stored-line _ _ (c .before .before .before .before .before .before .before .before .before .before .before .pre) _ _ _ (c .before .before .before .before .before .before .before .before .find .ensures) (c .before .before .before .before .before .before .i .given .1) _ (c .before .before .before .before .lane .ensures) (c .before .before .before .if1 .taken) _ (c .before .before .index .ensures) _ (c .before .points .ensures) _ (long-copied c) (c .copied .ensures)
 
-oriented-requires : tie.Need-oriented-requires
-oriented-requires c κs = search needs
-
-oriented-requires-2 : tie.Need-oriented-requires-2
-oriented-requires-2 c κs = search needs
-
-between-requires : tie.Need-between-requires
-between-requires c κs = (c .before .oriented .ensures .room, c .oriented2 .ensures .room)
+between-sides-requires : tie.Need-between-sides-requires
+between-sides-requires c κs = search needs
 
 returns-3 : tie.Need-returns-3
-returns-3 c = made-line _ _ (c .before .before .before .before .before .before .before .before .before .before .before .pre) _ _ _ (c .before .before .before .before .before .before .before .before .find .ensures) (c .before .before .before .before .before .before .i .given .1) _ (c .before .before .before .before .lane .ensures) _ _ _ (c .before .before .before .if1 .left) (c .before .before .oriented .ensures) (c .before .oriented2 .ensures) (c .between .ensures)
+returns-3 c = made-line _ _ (c .before .before .before .before .before .before .before .before .before .pre) _ _ _ (c .before .before .before .before .before .before .find .ensures) (c .before .before .before .before .i .given .1) _ (c .before .before .lane .ensures) _ (c .before .if1 .left) (c .between-sides .ensures)
 
 pub lane-centerline-spec : {M : Type 1} → statement M
 lane-centerline-spec =
@@ -66,7 +60,5 @@ lane-centerline-spec =
     points-requires
     copied-requires
     returns-2
-    oriented-requires
-    oriented-requires-2
-    between-requires
+    between-sides-requires
     returns-3)

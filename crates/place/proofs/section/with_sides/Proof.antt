@@ -23,38 +23,35 @@ side-of-requires c κs = c .loop-test .taken
 add-k : tie.Need-add-k Inv-loop μ-loop
 add-k c = omega (arith, c .before .loop-test .taken)
 
-oriented-requires : tie.Need-oriented-requires Inv-loop μ-loop
-oriented-requires c κs = c .before .before .before .before .before .pre
-
-returns : tie.Need-returns Inv-loop μ-loop
-returns c = siding-missing _ _ _ _ _ _ _ (c .before .before .before .before .before .loop .inv) (c .before .before .before .before .loop-test .taken) _ _ (c .before .before .before .side-of .ensures) _ (c .before .before .oriented .ensures) (c .if1 .taken)
-
 flat-requires : tie.Need-flat-requires Inv-loop μ-loop
 flat-requires c κs = search needs
 
-nearest-of-requires : tie.Need-nearest-of-requires Inv-loop μ-loop
-nearest-of-requires c κs = c .before .before .before .before .oriented .ensures .room
+nearest-side-requires : tie.Need-nearest-side-requires Inv-loop μ-loop
+nearest-side-requires c κs = c .before .before .before .before .before .before .pre
 
-enum-known-n : tie.Need-enum-known-n Inv-loop μ-loop
-enum-known-n c = search needs
+returns : tie.Need-returns Inv-loop μ-loop
+returns c = siding-missing _ _ _ _ _ _ _ (c .before .before .before .before .before .before .loop .inv) (c .before .before .before .before .before .loop-test .taken) _ _ (c .before .before .before .before .side-of .ensures) _ (c .before .before .before .flat .ensures) (c .before .before .nearest-side .result) (c .before .before .nearest-side .ensures) (c .if1 .taken)
+
+enum-known-nearest : tie.Need-enum-known-nearest Inv-loop μ-loop
+enum-known-nearest c = search needs
 
 enum-told : tie.Need-enum-told Inv-loop μ-loop
 enum-told c = search needs
 
 loop-less : tie.Need-loop-less Inv-loop μ-loop
-loop-less c = omega (arith, c .before .before .before .before .before .before .before .before .before .loop-test .taken)
+loop-less c = omega (arith, c .before .before .before .before .before .before .before .loop-test .taken)
 
 loop-again : tie.Need-loop-again Inv-loop μ-loop
-loop-again c = siding-past _ _ _ _ _ _ _ (c .before .before .before .before .before .before .before .before .before .before .loop .inv) (c .before .before .before .before .before .before .before .before .before .loop-test .taken) _ _ (c .before .before .before .before .before .before .before .before .side-of .ensures) _ (c .before .before .before .before .before .before .before .oriented .ensures) (c .before .before .before .before .before .if1 .left) _ (c .before .before .before .flat .ensures) _ (c .before .before .nearest-of .ensures) (c .enum-told .given .1)
+loop-again c = siding-past _ _ _ _ _ _ _ (c .before .before .before .before .before .before .before .before .loop .inv) (c .before .before .before .before .before .before .before .loop-test .taken) _ _ (c .before .before .before .before .before .before .side-of .ensures) _ (c .before .before .before .before .before .flat .ensures) (c .before .before .before .before .nearest-side .result) (c .before .before .before .before .nearest-side .ensures) (c .before .before .if1 .left) (c .enum-told .given .1)
 
 widened-requires : tie.Need-widened-requires Inv-loop μ-loop
 widened-requires c κs = search needs
 
 loop-less-2 : tie.Need-loop-less-2 Inv-loop μ-loop
-loop-less-2 c = omega (arith, c .before .before .before .before .before .before .before .before .before .before .before .loop-test .taken)
+loop-less-2 c = omega (arith, c .before .before .before .before .before .before .before .before .before .loop-test .taken)
 
 loop-again-2 : tie.Need-loop-again-2 Inv-loop μ-loop
-loop-again-2 c = siding-taken _ _ _ _ _ _ _ (c .before .before .before .before .before .before .before .before .before .before .before .before .loop .inv) (c .before .before .before .before .before .before .before .before .before .before .before .loop-test .taken) _ _ (c .before .before .before .before .before .before .before .before .before .before .side-of .ensures) _ (c .before .before .before .before .before .before .before .before .before .oriented .ensures) (c .before .before .before .before .before .before .before .if1 .left) _ (c .before .before .before .before .before .flat .ensures) _ (c .before .before .before .before .nearest-of .ensures) _ _ (c .before .before .n .given .1) (c .widened .ensures)
+loop-again-2 c = siding-taken _ _ _ _ _ _ _ (c .before .before .before .before .before .before .before .before .before .before .loop .inv) (c .before .before .before .before .before .before .before .before .before .loop-test .taken) _ _ (c .before .before .before .before .before .before .before .before .side-of .ensures) _ (c .before .before .before .before .before .before .before .flat .ensures) (c .before .before .before .before .before .before .nearest-side .result) (c .before .before .before .before .before .before .nearest-side .ensures) (c .before .before .before .before .if1 .left) _ _ (c .before .before .nearest .given .1) (c .widened .ensures)
 
 returns-2 : tie.Need-returns-2 Inv-loop μ-loop
 returns-2 c = siding-end _ _ _ _ _ _ _ (c .before .loop .inv) (c .loop-test .left)
@@ -68,11 +65,10 @@ with-sides-spec =
     loop-holds
     side-of-requires
     add-k
-    oriented-requires
-    returns
     flat-requires
-    nearest-of-requires
-    enum-known-n
+    nearest-side-requires
+    returns
+    enum-known-nearest
     enum-told
     loop-less
     loop-again
