@@ -138,11 +138,11 @@ module _ (edit : Map → Answer Draft) (l : Lent) where
     plan-refused x h = rw (fine, h)
 
     module _ (d : Draft) (plan : planned edit (mapOf (l .words) (l .coords)) ≡ done d) where
-      settle-refused : (x : Refusal) → settled (changeSetOf (l .fold)) (normalize (d .changes)) (leb (2 ^ 64) (d .map .next)) ≡ refusedAs x → steps edit l ≡ refusedAs x
+      pub settle-refused : (x : Refusal) → settled (changeSetOf (l .fold)) (normalize (d .changes)) (leb (2 ^ 64) (d .map .next)) ≡ refusedAs x → steps edit l ≡ refusedAs x
       unfolding steps
       settle-refused x h = rw (fine, plan, h)
 
-      carried-out : settled (changeSetOf (l .fold)) (normalize (d .changes)) (leb (2 ^ 64) (d .map .next)) ≡ done tt → steps edit l ≡ done d
+      pub carried-out : settled (changeSetOf (l .fold)) (normalize (d .changes)) (leb (2 ^ 64) (d .map .next)) ≡ done tt → steps edit l ≡ done d
       unfolding steps
       carried-out h = rw (fine, plan, h)
 
@@ -152,7 +152,7 @@ module _ (edit : Map → Answer Draft) (l : Lent) where
       → CallLeft (call edit) l r (record { words = l .words; coords = l .coords; fold = f′; tally = u; set = l .set })
   call-refused x h f′ ef r u e = rw (ef, e .0, e .1) (record { answer = sym (call-is ∙ rw h); kept = λ _. refl })
 
-  call-done : (d : Draft) → steps edit l ≡ done d → (new : Lent) (n : ℕ) → mapOf (new .words) (new .coords) ≡ d .map
+  pub call-done : (d : Draft) → steps edit l ≡ done d → (new : Lent) (n : ℕ) → mapOf (new .words) (new .coords) ≡ d .map
       → changeSetOf (new .fold) ≡ foldStep (changeSetOf (l .fold)) (normalize (d .changes)) → new .tally ≡ tallyOf (changeSetOf (new .fold))
       → changeSetOf (new .set) ≡ normalize (d .changes) → n ≡ d .id → CallLeft (call edit) l (c.Done n) new
   call-done d h new n a b t s i = record {

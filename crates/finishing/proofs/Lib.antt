@@ -5,3 +5,4 @@ pub mod CeilingLaws
 pub mod StoredLaws
 pub mod FreshLaws
 pub mod CallLaws
+pub mod EndLaws

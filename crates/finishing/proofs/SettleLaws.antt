@@ -2,10 +2,11 @@
 use Prim.Native.Nat.{ℕ, zero, suc, _+_, _*_, _≤_, _<_}
 use mathlib.Core.Path.{_≡_, refl, sym, ap, _∙_}
 use mathlib.Core.Bool.{Bool, true, false, not}
-use mathlib.Core.List.{List, [], _∷_}
+use mathlib.Core.List.{List, [], _∷_, _++_}
 use native.Mathlib.Omega.{arith}
-use lib.ListN.{length}
-use borrow.Author.Tests.{not-true, not-false}
+use lib.Dec.{leb}
+use lib.ListN.{length, getD, length-append}
+use borrow.Author.Tests.{not-true, not-false, le-leb, leb-true}
 use Rattle.refusal.specs.Answer.{Answer, refused, done, refusedAs, refuseWhen, _>>_}
 use Rattle.refusal.specs.declared.Refusal.{Refusal}
 use Rattle.refusal.specs.declared.Refusal.the-variants as e
@@ -26,7 +27,7 @@ use Rattle.normal.specs.Normal.{Normalized}
 use Rattle.placing.specs.declared.Checked.{Checked}
 use Rattle.placing.specs.declared.Checked.the-variants as k
 use Rattle.placing.specs.Answers.{checked}
-use Rattle.finishing.specs.Finish.{settled, RoomyAll, FoldSettled}
+use Rattle.finishing.specs.Finish.{settled, RoomyAll, FoldSettled, Few, FoldRoom, Settles, TakenIn}
 
 -- ---- a normalized list rises and is no longer than it was
 
@@ -146,3 +147,51 @@ module _ (f d d′ : List ℕ) (ok : RoomyAll d) (n : Normalized d d′) (late :
         folds false g a z = absurd (let y : _≡_ {A = ℕ} 0 1 = cc in omega arith)
 
 pub ruleset settling = (late-full, late-spent, fold-refused, fold-done)
+
+-- ---- without a store
+
+few-fits : (f c : ChangeSet) → length (f .created) ≤ 256 → length (f .modified) ≤ 256 → length (f .deleted) ≤ 256 → Few c → foldFits (foldStep f (normalize c)) ≡ true
+unfolding foldFits foldStep
+few-fits f c a b d few = rw (
+  le-leb (length (normalize g .created)) 512 (omega (arith, normal-created g .0, length-append (f .created) (normalize c .created), normal-created c .0, few .created)),
+  le-leb (length (normalize g .modified)) 512 (omega (arith, normal-modified g .0, length-append (f .modified) (normalize c .modified), normal-modified c .0, few .modified)),
+  le-leb (length (normalize g .deleted)) 512 (omega (arith, normal-deleted g .0, length-append (f .deleted) (normalize c .deleted), normal-deleted c .0, few .deleted)),
+)
+  where
+    g : ChangeSet
+    g = record { created = f .created ++ normalize c .created; modified = f .modified ++ normalize c .modified; deleted = f .deleted ++ normalize c .deleted; warnings = [] }
+
+pub no-room : (f : List ℕ) (late : Bool) → FoldRoom f late false
+no-room f late = record { fine = λ q. let z : _≡_ {A = ℕ} 0 1 = cc in absurd (omega arith) }
+
+pub has-room : (f : List ℕ) (late : Bool) → late ≡ false → getD f 0 0 ≤ 256 → getD f 1 0 ≤ 256 → FoldRoom f late (leb (getD f 2 0) 256)
+unfolding settled changeSetOf countIn
+has-room f late t a b = record {
+  fine = λ q c few. rw (
+    t,
+    few-fits (changeSetOf f) c (omega (arith, length-in f 0)) (omega (arith, length-in f 1)) (omega (arith, length-in f 2, leb-true (getD f 2 0) 256 q)) few,
+  );
+}
+
+module _ (f d d′ : List ℕ) (n : Normalized d d′) (late b : Bool) (h : b ≡ foldFits (foldStep (changeSetOf f) (changeSetOf d′))) where
+  pub settles-full : not b ≡ true → Settles f (changeSetOf d) late (k.Refused e.Full)
+  unfolding settled
+  settles-full q = record { answer = rw (← n .set, ← h, not-true b q) }
+
+  pub settles-late : not b ≡ false → late ≡ true → Settles f (changeSetOf d) late (k.Refused e.NumbersSpent)
+  unfolding settled
+  settles-late q t = record { answer = rw (← n .set, ← h, not-false b q, t) }
+
+  pub settles-fine : not b ≡ false → late ≡ false → Settles f (changeSetOf d) late k.Fine
+  unfolding settled
+  settles-fine q t = record { answer = rw (← n .set, ← h, not-false b q, t) }
+
+pub taken-in : (f d d′ : List ℕ) → Normalized d d′ → foldFits (foldStep (changeSetOf f) (normalize (changeSetOf d))) ≡ true → (q : Folded) (f′ : List ℕ) → FoldsTo f d′ q f′ → TakenIn f d f′ d′
+unfolding foldFitted
+taken-in f d d′ n fits q f′ h = record { set = n .set; fold = go q (h .answer ∙ rw (n .set, fits)) }
+  where
+    go : (y : Folded) → foldedAs y (changeSetOf f′) ≡ done (foldStep (changeSetOf f) (normalize (changeSetOf d))) → changeSetOf f′ ≡ foldStep (changeSetOf f) (normalize (changeSetOf d))
+    go s.Done z = cc
+    go (s.Refused x) z = absurd (let y : _≡_ {A = ℕ} 0 1 = cc in omega arith)
+
+pub ruleset settling-unstored = (no-room, has-room, settles-full, settles-late, settles-fine, taken-in)

@@ -1,7 +1,7 @@
 -- A call, step by step: what is tested of what is lent, what is planned, what the fold settles; and what the code of each step leaves.
 use Prim.Native.Nat.{ℕ, _^_, _≤_, _<_}
 use mathlib.Core.Path.{_≡_}
-use mathlib.Core.Bool.{Bool, not, _&&_}
+use mathlib.Core.Bool.{Bool, true, not, _&&_}
 use mathlib.Core.List.{List, []}
 use lib.Dec.{eqb, leb}
 use lib.ListN.{length}
@@ -77,3 +77,24 @@ pub record FoldSettled (f d : List ℕ) (late : Bool) (r : Checked) (f′ d′ :
   pub room : RoomyAll d′
   pub fold : r ≡ Fine → changeSetOf f′ ≡ foldStep (changeSetOf f) (normalize (changeSetOf d))
   pub kept : (e : Refusal) → r ≡ Refused e → f′ ≡ f
+
+-- ---- settled without a store
+
+-- a set with few entries in each list
+pub record Few (c : ChangeSet) : Type 0 where
+  pub created : length (c .created) ≤ 256
+  pub modified : length (c .modified) ≤ 256
+  pub deleted : length (c .deleted) ≤ 256
+
+-- where r is yes, no set with few entries is refused
+pub record FoldRoom (f : List ℕ) (late r : Bool) : Type 0 where
+  pub fine : r ≡ true → (c : ChangeSet) → Few c → settled (changeSetOf f) (normalize c) late ≡ done tt
+
+-- r answers as settling c with the fold f does
+pub record Settles (f : List ℕ) (c : ChangeSet) (late : Bool) (r : Checked) : Type 0 where
+  pub answer : checked r ≡ settled (changeSetOf f) (normalize c) late
+
+-- the table d normalized, and taken into the fold f
+pub record TakenIn (f d f′ d′ : List ℕ) : Type 0 where
+  pub set : changeSetOf d′ ≡ normalize (changeSetOf d)
+  pub fold : changeSetOf f′ ≡ foldStep (changeSetOf f) (normalize (changeSetOf d))

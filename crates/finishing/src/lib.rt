@@ -6,10 +6,12 @@ ghost use lib.ListN.{length};
 ghost use Rattle.rows.specs.Lists.{every};
 ghost use Rattle.geometry.specs.Point.{pointOnMap};
 ghost use Rattle.geometry.specs.Polyline.{polylineOf};
+ghost use Rattle.changes.specs.ChangeSet.{normalize, foldStep};
 ghost use Rattle.changes.specs.Layout.{setWords, listIn, changeSetOf, listsOkIn};
+ghost use Rattle.changes.specs.Running.{foldFits};
 ghost use Rattle.sets.specs.Tables.{Roomy, putList};
 ghost use Rattle.placing.specs.Answers.{checked};
-ghost use Rattle.finishing.specs.Finish.{lentChecks, RoomyAll, WarningsCopied, FoldSettled};
+ghost use Rattle.finishing.specs.Finish.{lentChecks, RoomyAll, WarningsCopied, FoldSettled, FoldRoom, Settles, TakenIn};
 use changes::Tally;
 use changes::layout;
 use edit::Answered;
@@ -17,6 +19,9 @@ use edit::Called;
 use placing::Checked;
 use refusal::Refusal;
 use sets::Folded;
+
+// So many entries are few: twice as many have room in a list.
+const FEW: u64 = 256;
 
 // A call that is refused: the tally is as it was.
 pub fn refused(r: Refusal, tally: Tally) -> Answered
@@ -68,6 +73,47 @@ pub fn settle(fold: &mut [u64], draft: &mut [u64], late: bool) -> Checked
         Folded::Refused(r) => Checked::Refused(r),
         Folded::Done => Checked::Fine,
     }
+}
+
+// Whether no set with at most 256 entries in each list is refused: numbers are left, and the fold has that much room.
+pub fn fold_room(fold: &[u64], late: bool) -> bool
+    requires { ⌜ length (now fold) ≡ setWords ⌝ }
+    ensures { λ r. ⌜ FoldRoom (now (fold .entry)) late r ⌝ }
+{
+    if late {
+        return false;
+    }
+    if FEW < fold[0] {
+        return false;
+    }
+    if FEW < fold[1] {
+        return false;
+    }
+    fold[2] <= FEW
+}
+
+// What settling the draft with the fold answers: 10 where a list of the fold would be too long, then 11. The fold is only read; the draft is normalized.
+pub fn settles(fold: &[u64], draft: &mut [u64], late: bool) -> Checked
+    requires { ⌜ (listsOkIn (now fold) ≡ true) × RoomyAll (now draft) ⌝ }
+    ensures { λ r. ⌜ Settles (now (fold .entry)) (changeSetOf (now (draft .entry))) late r ⌝ }
+{
+    normal::normalize(draft);
+    if !sets::fold_fits(fold, draft) {
+        return Checked::Refused(Refusal::Full);
+    }
+    if late {
+        return Checked::Refused(Refusal::NumbersSpent);
+    }
+    Checked::Fine
+}
+
+// The set is normalized and taken into the fold, which has room for it.
+pub fn take_in(fold: &mut [u64], set: &mut [u64])
+    requires { ⌜ (listsOkIn (now fold) ≡ true) × RoomyAll (now set) × (foldFits (foldStep (changeSetOf (now fold)) (normalize (changeSetOf (now set)))) ≡ true) ⌝ }
+    ensures { λ _. ⌜ TakenIn (now (fold .entry)) (now (set .entry)) (now (fold .exit)) (now (set .exit)) ⌝ }
+{
+    normal::normalize(set);
+    sets::fold_fitted(fold, set);
 }
 
 // List l of the draft, with its count.
