@@ -1,5 +1,5 @@
 -- What each step of the call leaves, and the whole call.
-use Prim.Native.Nat.{ℕ, _≤_, _<_}
+use Prim.Native.Nat.{ℕ, _^_, _≤_, _<_}
 use mathlib.Core.Path.{_≡_, refl, sym, ap, _∙_}
 use mathlib.Core.Bool.{Bool, true, false, not, _&&_, cond}
 use mathlib.Core.Option.{none, some}
@@ -40,8 +40,9 @@ use Rattle.edit.specs.declared.Called.the-variants as c
 use Rattle.edit.specs.Edit.{Draft, call}
 use Rattle.edit.specs.Lent.{Lent, CallLeft}
 use Rattle.edit.specs.Links.{RegulatoryLinks, linkChanges, linksEdit, setRegulatoryLinks}
-use Rattle.finishing.specs.Finish.{lentChecks, planned, RoomyAll, FoldSettled}
-use Rattle.finishing.proofs.CallLaws.{lent-fine, lent-refused, plan-refused, call-refused, ends-refused, ends-done, edit-refused}
+use Rattle.finishing.specs.Finish.{lentChecks, planned, RoomyAll, Few, FoldRoom, Settles, TakenIn}
+use Rattle.finishing.proofs.CallLaws.{lent-fine, lent-refused, plan-refused, call-refused, edit-refused}
+use Rattle.finishing.proofs.EndLaws.{room-settles, ends-refused, takes, ends-done}
 use Rattle.linking.specs.declared.Sorted.{Sorted}
 use Rattle.linking.specs.Sorting.{SortedAs}
 use Rattle.linking.specs.Linking.{listChecks, ListsChecked}
@@ -119,9 +120,23 @@ module _ (same : Bool) (n : ℕ) (s : List ℕ) (h : Cleared s) where
     room = record { lists = g .room; warnings = let a = h .none 3 (omega arith) in let b = g .others 3 (omega arith) (λ q. omega arith) in omega arith };
   }
 
+-- ---- the fold
+
+few-links : (same : Bool) (n : ℕ) → Few (linkChanges same n)
+unfolding linkChanges
+few-links true n = record { created = omega arith; modified = omega arith; deleted = omega arith }
+few-links false n = record { created = omega arith; modified = omega arith; deleted = omega arith }
+
+module _ (f : List ℕ) (same : Bool) (n : ℕ) where
+  pub fold-takes : (b : Bool) → FoldRoom f false b → b ≡ true → Settles f (linkChanges same n) false k.Fine
+  fold-takes b h q = room-settles f false b h q (linkChanges same n) (few-links same n)
+
+  pub fold-tried : (d : List ℕ) → SetDrafted same n d → (r : Checked) → Settles f (changeSetOf d) false r → Settles f (linkChanges same n) false r
+  fold-tried d ht r h = rw (ht .set) at h
+
 -- ---- the plan carried out
 
-fold-long : (f : List ℕ) → listsOkIn f ≡ true → length f ≡ setWords
+pub fold-long : (f : List ℕ) → listsOkIn f ≡ true → length f ≡ setWords
 unfolding listsOkIn
 fold-long f h = eqb-true (length f) setWords (search parts)
 
@@ -152,24 +167,31 @@ module _ (ws : List ℕ) (cs : List Float) (f : List ℕ) (t : Tally) (s : List 
         abbrev draft : Draft
         draft = draftFor b (mapOf ws cs) (ruleAt ws cs i)
 
-        module _ (same : Bool) (es : SameRead ws i lanes crosswalks lines same) (t0 : List ℕ) (ht : SetDrafted same n t0) (r : Checked) (f′ t1 : List ℕ) (h : FoldSettled f t0 false r f′ t1) where
-          same-set : changeSetOf t0 ≡ draft .changes
-          same-set = ht .set ∙ ap (λ (x : Bool). linkChanges x n) (es .answer cs) ∙ sym (E.draft-changes ws cs (known .sound) n i found b)
+        module _ (same : Bool) (es : SameRead ws i lanes crosswalks lines same) (r : Checked) (h : Settles f (linkChanges same n) false r) where
+          same-set : linkChanges same n ≡ draft .changes
+          same-set = ap (λ (x : Bool). linkChanges x n) (es .answer cs) ∙ sym (E.draft-changes ws cs (known .sound) n i found b)
+
+          alike : foldFits (foldStep (changeSetOf f) (normalize (linkChanges same n))) ≡ foldFits (foldStep (changeSetOf f) (normalize (draft .changes)))
+          alike = ap (λ (y : ChangeSet). foldFits (foldStep (changeSetOf f) (normalize y))) same-set
+
+          abbrev in-time : false ≡ leb (2 ^ 64) (draft .map .next)
+          in-time = E.draft-early ws cs (known .sound) n i found b
 
           pub out-refused : (x : Refusal) → r ≡ k.Refused x → (a : Called) (u : Tally) → (a ≡ c.Refused x) × (u ≡ t)
-              → LinksEnd lent i b a (record { words = ws; coords = cs; fold = f′; tally = u; set = s })
-          out-refused x q a u g = record {
-            left = λ edit plan.
-                ends-refused lent fine draft t0 false (E.draft-early ws cs (known .sound) n i found b) r f′ t1 h (ap (λ (y : ChangeSet). foldFits (foldStep (changeSetOf f) (normalize y))) same-set) x q a u g .left edit plan;
-          }
+              → LinksEnd lent i b a (record { words = ws; coords = cs; fold = f; tally = u; set = s })
+          out-refused x q a u g = record { left = λ edit plan. ends-refused lent fine draft (linkChanges same n) false in-time alike r h x q a u g .left edit plan }
 
-          pub out-done : r ≡ k.Fine → (s′ ws′ : List ℕ) (u : Tally) → changeSetOf s′ ≡ changeSetOf t1 → LinksPut ws i lanes crosswalks lines ws′ → u ≡ tallyOf (changeSetOf f′)
-              → LinksEnd lent i b (c.Done n) (record { words = ws′; coords = cs; fold = f′; tally = u; set = s′ })
-          out-done q s′ ws′ u eset p eu = record {
-            left = λ edit plan.
-                ends-done lent fine draft t0 false (E.draft-early ws cs (known .sound) n i found b) r f′ t1 h same-set q ws′ cs u s′ n
-                (p .map cs (known .sound .sized .coords) ∙ sym (E.draft-map ws cs (known .sound) n i found b)) eu eset (sym (E.draft-id ws cs (known .sound) n i found b)) .left edit plan;
-          }
+          module _ (q : r ≡ k.Fine) (t0 : List ℕ) (ht : SetDrafted same n t0) where
+            pub taken : foldFits (foldStep (changeSetOf f) (normalize (changeSetOf t0))) ≡ true
+            taken = takes lent fine draft (linkChanges same n) false in-time alike r h q t0 (ht .set ∙ same-set)
+
+            pub out-done : (f′ t1 : List ℕ) → TakenIn f t0 f′ t1 → (ws′ : List ℕ) (u : Tally) → LinksPut ws i lanes crosswalks lines ws′ → u ≡ tallyOf (changeSetOf f′)
+                → LinksEnd lent i b (c.Done n) (record { words = ws′; coords = cs; fold = f′; tally = u; set = t1 })
+            out-done f′ t1 w ws′ u p eu = record {
+              left = λ edit plan.
+                  ends-done lent fine draft (linkChanges same n) false in-time alike r h q t0 (ht .set ∙ same-set) f′ t1 w ws′ cs u n
+                  (p .map cs (known .sound .sized .coords) ∙ sym (E.draft-map ws cs (known .sound) n i found b)) eu (sym (E.draft-id ws cs (known .sound) n i found b)) .left edit plan;
+            }
 
     -- ---- the rule
 

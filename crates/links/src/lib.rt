@@ -9,16 +9,16 @@ use map::lookup;
 use placing::Checked;
 use refusal::Refusal;
 ghost use mathlib.Core.Path.{_≡_};
-ghost use mathlib.Core.Bool.{true};
+ghost use mathlib.Core.Bool.{true, false};
 ghost use lib.ListN.{length, getD};
 ghost use Rattle.refusal.specs.Answer.{done};
 ghost use Rattle.store.specs.Layout.{SizedWords, rowOf};
 ghost use Rattle.map.specs.declared.Found.the-variants.{At};
 ghost use Rattle.map.specs.Access.{lookup};
-ghost use Rattle.changes.specs.Layout.{setWords};
+ghost use Rattle.changes.specs.Layout.{setWords, listsOkIn};
 ghost use Rattle.edit.specs.Lent.{CallLeft};
-ghost use Rattle.edit.specs.Links.{setRegulatoryLinks};
-ghost use Rattle.finishing.specs.Finish.{lentChecks};
+ghost use Rattle.edit.specs.Links.{linkChanges, setRegulatoryLinks};
+ghost use Rattle.finishing.specs.Finish.{lentChecks, Settles};
 ghost use Rattle.link_plan.specs.LinkPlan.{LinkWords, linksFit};
 ghost use Rattle.links.specs.Linked.{ruleLinks, LinksChecked, RulePlanned, SetDrafted, LinksEnd, RuleEnds};
 
@@ -65,7 +65,20 @@ fn draft_set(draft: &mut [u64], same: bool, rule: u64)
     }
 }
 
-// The plan carried out: the change set settled with the fold, and only then all else is stored.
+// What settling the rule's set with the fold answers. Only where the fold is nearly full is a set drafted to find out, in memory of its own.
+fn check_fold(fold: &[u64], same: bool, rule: u64) -> Checked
+    requires { ⌜ listsOkIn (now fold) ≡ true ⌝ }
+    ensures { λ r. ⌜ Settles (now (fold .entry)) (linkChanges same rule) false r ⌝ }
+{
+    if finishing::fold_room(fold, false) {
+        return Checked::Fine;
+    }
+    let mut draft = [0u64; 3556];
+    draft_set(&mut draft, same, rule);
+    finishing::settles(fold, &mut draft, false)
+}
+
+// The plan carried out: nothing is stored before the fold is known to take the change set.
 fn carry_out(
     words: &mut [u64],
     coords: &mut [f64],
@@ -82,13 +95,12 @@ fn carry_out(
     ensures { λ r. ⌜ LinksEnd (record { words = now (words .entry); coords = now (coords .entry); fold = now (fold .entry); tally = tally; set = now (set .entry) }) i (ruleLinks rule (now (lanes .entry)) (now (crosswalks .entry)) (now (lines .entry))) (r .called) (record { words = now (words .exit); coords = now (coords .exit); fold = now (fold .exit); tally = r .tally; set = now (set .exit) }) ⌝ }
 {
     let same = link_plan::same::same_links(words, i, lanes, crosswalks, lines);
-    let mut draft = [0u64; 3556];
-    draft_set(&mut draft, same, rule);
-    let settled = finishing::settle(fold, &mut draft, false);
+    let settled = check_fold(fold, same, rule);
     if let Checked::Refused(r) = settled {
         return finishing::refused(r, tally);
     }
-    finishing::copy_set(set, &draft);
+    draft_set(set, same, rule);
+    finishing::take_in(fold, set);
     link_plan::put::links_put(words, i, lanes, crosswalks, lines);
     Answered {
         called: Called::Done(rule),

@@ -8,17 +8,8 @@ use Rattle.links.proofs.carry_out.Tie as tie
 same-links-requires : tie.Need-same-links-requires
 same-links-requires c κs = K.ready _ _ _ _ _ (c .before .before .before .before .before .before .before .before .pre .0) _ _ (c .before .before .before .before .before .before .before .before .pre .1)
 
-slice-aggregate-draft-set : tie.Need-slice-aggregate-draft-set
-slice-aggregate-draft-set c = search needs
-
-draft-set-requires : tie.Need-draft-set-requires
-draft-set-requires c κs = search needs
-
-slice-aggregate-settle : tie.Need-slice-aggregate-settle
-slice-aggregate-settle c = search needs
-
-settle-requires : tie.Need-settle-requires
-settle-requires c κs = (K.known _ _ _ _ _ (c .before .before .before .before .before .before .before .before .before .before .before .before .before .before .pre .0) .fold, (c .before .before .before .draft-set .ensures .room))
+check-fold-requires : tie.Need-check-fold-requires
+check-fold-requires c κs = K.known _ _ _ _ _ (c .before .before .before .before .before .before .before .before .before .before .pre .0) .fold
 
 enum-known-settled : tie.Need-enum-known-settled
 enum-known-settled c = search needs
@@ -33,22 +24,22 @@ same-length-2 : tie.Need-same-length-2
 same-length-2 c = search needs
 
 returns : tie.Need-returns
-returns c = K.out-refused _ _ _ _ _ (c .before .before .before .before .before .before .before .before .before .before .before .before .before .before .before .before .before .before .before .before .before .before .pre .0) _ _ (c .before .before .before .before .before .before .before .before .before .before .before .before .before .before .before .before .before .before .before .before .before .before .pre .1) (c .before .before .before .before .before .before .before .before .before .before .before .before .before .before .before .before .before .before .before .before .before .before .args .lanes .now) (c .before .before .before .before .before .before .before .before .before .before .before .before .before .before .before .before .before .before .before .before .before .before .args .crosswalks .now) (c .before .before .before .before .before .before .before .before .before .before .before .before .before .before .before .before .before .before .before .before .before .before .args .lines .now) _ (c .before .before .before .before .before .before .before .before .before .before .before .before .before .same-links .ensures) _ (c .before .before .before .before .before .before .before .before .before .before .before .draft-set .ensures) _ _ _ (c .before .before .before .before .before .before .before .settle .ensures) _ (c .before .before .settled .given .1) _ _ (c .refused .ensures)
+returns c = K.out-refused _ _ _ _ _ (c .before .before .before .before .before .before .before .before .before .before .before .before .before .before .before .pre .0) _ _ (c .before .before .before .before .before .before .before .before .before .before .before .before .before .before .before .pre .1) (c .before .before .before .before .before .before .before .before .before .before .before .before .before .before .before .args .lanes .now) (c .before .before .before .before .before .before .before .before .before .before .before .before .before .before .before .args .crosswalks .now) (c .before .before .before .before .before .before .before .before .before .before .before .before .before .before .before .args .lines .now) _ (c .before .before .before .before .before .before .same-links .ensures) _ (c .before .before .before .before .check-fold .ensures) _ (c .before .before .settled .given .1) _ _ (c .refused .ensures)
 
 enum-told : tie.Need-enum-told
 enum-told c = search needs
 
-slice-aggregate-copy-set : tie.Need-slice-aggregate-copy-set
-slice-aggregate-copy-set c = search needs
+draft-set-requires : tie.Need-draft-set-requires
+draft-set-requires c κs = K.known _ _ _ _ _ (c .before .before .before .before .before .before .before .before .before .before .before .before .before .before .pre .0) .set
 
-copy-set-requires : tie.Need-copy-set-requires
-copy-set-requires c κs = (K.known _ _ _ _ _ (c .before .before .before .before .before .before .before .before .before .before .before .before .before .before .before .before .before .before .before .before .before .before .pre .0) .set, (c .before .before .before .before .before .before .before .settle .ensures .room))
+take-in-requires : tie.Need-take-in-requires
+take-in-requires c κs = (K.known _ _ _ _ _ (c .before .before .before .before .before .before .before .before .before .before .before .before .before .before .before .before .before .before .before .pre .0) .fold, c .before .before .before .before .draft-set .ensures .room, K.taken _ _ _ _ _ (c .before .before .before .before .before .before .before .before .before .before .before .before .before .before .before .before .before .before .before .pre .0) _ _ (c .before .before .before .before .before .before .before .before .before .before .before .before .before .before .before .before .before .before .before .pre .1) (c .before .before .before .before .before .before .before .before .before .before .before .before .before .before .before .before .before .before .before .args .lanes .now) (c .before .before .before .before .before .before .before .before .before .before .before .before .before .before .before .before .before .before .before .args .crosswalks .now) (c .before .before .before .before .before .before .before .before .before .before .before .before .before .before .before .before .before .before .before .args .lines .now) _ (c .before .before .before .before .before .before .before .before .before .before .same-links .ensures) _ (c .before .before .before .before .before .before .before .before .check-fold .ensures) (c .before .before .before .before .before .before .enum-told .given .1) _ (c .before .before .before .before .draft-set .ensures))
 
 links-put-requires : tie.Need-links-put-requires
-links-put-requires c κs = (K.ready _ _ _ _ _ (c .before .before .before .before .before .before .before .before .before .before .before .before .before .before .before .before .before .before .before .before .before .before .before .before .before .before .pre .0) _ _ (c .before .before .before .before .before .before .before .before .before .before .before .before .before .before .before .before .before .before .before .before .before .before .before .before .before .before .pre .1), K.fits-each _ _ _ _ (c .before .before .before .before .before .before .before .before .before .before .before .before .before .before .before .before .before .before .before .before .before .before .before .before .before .before .pre .2) .0, K.fits-each _ _ _ _ (c .before .before .before .before .before .before .before .before .before .before .before .before .before .before .before .before .before .before .before .before .before .before .before .before .before .before .pre .2) .1, K.fits-each _ _ _ _ (c .before .before .before .before .before .before .before .before .before .before .before .before .before .before .before .before .before .before .before .before .before .before .before .before .before .before .pre .2) .2)
+links-put-requires c κs = (K.ready _ _ _ _ _ (c .before .before .before .before .before .before .before .before .before .before .before .before .before .before .before .before .before .before .before .before .before .before .before .before .before .pre .0) _ _ (c .before .before .before .before .before .before .before .before .before .before .before .before .before .before .before .before .before .before .before .before .before .before .before .before .before .pre .1), K.fits-each _ _ _ _ (c .before .before .before .before .before .before .before .before .before .before .before .before .before .before .before .before .before .before .before .before .before .before .before .before .before .pre .2) .0, K.fits-each _ _ _ _ (c .before .before .before .before .before .before .before .before .before .before .before .before .before .before .before .before .before .before .before .before .before .before .before .before .before .pre .2) .1, K.fits-each _ _ _ _ (c .before .before .before .before .before .before .before .before .before .before .before .before .before .before .before .before .before .before .before .before .before .before .before .before .before .pre .2) .2)
 
 tally-of-requires : tie.Need-tally-of-requires
-tally-of-requires c κs = omega (arith, K.known _ _ _ _ _ (c .before .before .before .before .before .before .before .before .before .before .before .before .before .before .before .before .before .before .before .before .before .before .before .before .before .before .before .before .before .before .pre .0) .long)
+tally-of-requires c κs = omega (arith, K.known _ _ _ _ _ (c .before .before .before .before .before .before .before .before .before .before .before .before .before .before .before .before .before .before .before .before .before .before .before .before .before .before .before .before .before .pre .0) .long)
 
 same-length-3 : tie.Need-same-length-3
 same-length-3 c = search needs
@@ -60,25 +51,22 @@ same-length-5 : tie.Need-same-length-5
 same-length-5 c = search needs
 
 returns-2 : tie.Need-returns-2
-returns-2 c = K.out-done _ _ _ _ _ (c .before .before .before .before .before .before .before .before .before .before .before .before .before .before .before .before .before .before .before .before .before .before .before .before .before .before .before .before .before .before .before .pre .0) _ _ (c .before .before .before .before .before .before .before .before .before .before .before .before .before .before .before .before .before .before .before .before .before .before .before .before .before .before .before .before .before .before .before .pre .1) (c .before .before .before .before .before .before .before .before .before .before .before .before .before .before .before .before .before .before .before .before .before .before .before .before .before .before .before .before .before .before .before .args .lanes .now) (c .before .before .before .before .before .before .before .before .before .before .before .before .before .before .before .before .before .before .before .before .before .before .before .before .before .before .before .before .before .before .before .args .crosswalks .now) (c .before .before .before .before .before .before .before .before .before .before .before .before .before .before .before .before .before .before .before .before .before .before .before .before .before .before .before .before .before .before .before .args .lines .now) _ (c .before .before .before .before .before .before .before .before .before .before .before .before .before .before .before .before .before .before .before .before .before .before .same-links .ensures) _ (c .before .before .before .before .before .before .before .before .before .before .before .before .before .before .before .before .before .before .before .before .draft-set .ensures) _ _ _ (c .before .before .before .before .before .before .before .before .before .before .before .before .before .before .before .before .settle .ensures) (c .before .before .before .before .before .before .before .before .before .before .before .enum-told .given .1) _ _ _ (c .before .before .before .before .before .before .before .before .copy-set .ensures) (c .before .before .before .before .links-put .ensures) (c .tally-of .ensures)
+returns-2 c = K.out-done _ _ _ _ _ (c .before .before .before .before .before .before .before .before .before .before .before .before .before .before .before .before .before .before .before .before .before .before .before .before .before .before .before .before .before .before .pre .0) _ _ (c .before .before .before .before .before .before .before .before .before .before .before .before .before .before .before .before .before .before .before .before .before .before .before .before .before .before .before .before .before .before .pre .1) (c .before .before .before .before .before .before .before .before .before .before .before .before .before .before .before .before .before .before .before .before .before .before .before .before .before .before .before .before .before .before .args .lanes .now) (c .before .before .before .before .before .before .before .before .before .before .before .before .before .before .before .before .before .before .before .before .before .before .before .before .before .before .before .before .before .before .args .crosswalks .now) (c .before .before .before .before .before .before .before .before .before .before .before .before .before .before .before .before .before .before .before .before .before .before .before .before .before .before .before .before .before .before .args .lines .now) _ (c .before .before .before .before .before .before .before .before .before .before .before .before .before .before .before .before .before .before .before .before .before .same-links .ensures) _ (c .before .before .before .before .before .before .before .before .before .before .before .before .before .before .before .before .before .before .before .check-fold .ensures) (c .before .before .before .before .before .before .before .before .before .before .before .before .before .before .before .before .before .enum-told .given .1) _ (c .before .before .before .before .before .before .before .before .before .before .before .before .before .before .before .draft-set .ensures) _ _ (c .before .before .before .before .before .before .before .before .before .before .take-in .ensures) _ _ (c .before .before .before .before .links-put .ensures) (c .tally-of .ensures)
 
 pub carry-out-spec : {M : Type 1} → statement M
 carry-out-spec =
     tie.close
     (tie.spec
     same-links-requires
-    slice-aggregate-draft-set
-    draft-set-requires
-    slice-aggregate-settle
-    settle-requires
+    check-fold-requires
     enum-known-settled
     refused-requires
     same-length
     same-length-2
     returns
     enum-told
-    slice-aggregate-copy-set
-    copy-set-requires
+    draft-set-requires
+    take-in-requires
     links-put-requires
     tally-of-requires
     same-length-3
