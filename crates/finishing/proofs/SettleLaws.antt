@@ -161,6 +161,9 @@ few-fits f c a b d few = rw (
     g : ChangeSet
     g = record { created = f .created ++ normalize c .created; modified = f .modified ++ normalize c .modified; deleted = f .deleted ++ normalize c .deleted; warnings = [] }
 
+pub fold-long : (f : List ℕ) → listsOkIn f ≡ true → length f ≡ setWords
+fold-long f h = fits-ok f h .room .size
+
 pub no-room : (f : List ℕ) (late : Bool) → FoldRoom f late false
 no-room f late = record { fine = λ q. let z : _≡_ {A = ℕ} 0 1 = cc in absurd (omega arith) }
 

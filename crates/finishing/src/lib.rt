@@ -77,7 +77,7 @@ pub fn settle(fold: &mut [u64], draft: &mut [u64], late: bool) -> Checked
 
 // Whether no set with at most 256 entries in each list is refused: numbers are left, and the fold has that much room.
 pub fn fold_room(fold: &[u64], late: bool) -> bool
-    requires { ⌜ length (now fold) ≡ setWords ⌝ }
+    requires { ⌜ listsOkIn (now fold) ≡ true ⌝ }
     ensures { λ r. ⌜ FoldRoom (now (fold .entry)) late r ⌝ }
 {
     if late {

@@ -8,7 +8,7 @@ use native.Mathlib.Omega.{arith}
 use lib.Dec.{eqb, ltb, leb}
 use lib.Ieee.{Float}
 use lib.ListN.{length, getD, take, length-take}
-use borrow.Author.Tests.{eqb-true, eq-eqb, leb-true, not-true, not-false}
+use borrow.Author.Tests.{eq-eqb, leb-true, not-true, not-false}
 use Rattle.refusal.specs.Answer.{Answer, refused, done, refusedAs, _>>=_, _>>_, refuseWhen, present}
 use Rattle.refusal.specs.declared.Refusal.{Refusal}
 use Rattle.refusal.specs.declared.Refusal.the-variants as e
@@ -136,10 +136,6 @@ module _ (f : List ℕ) (same : Bool) (n : ℕ) where
 
 -- ---- the plan carried out
 
-pub fold-long : (f : List ℕ) → listsOkIn f ≡ true → length f ≡ setWords
-unfolding listsOkIn
-fold-long f h = eqb-true (length f) setWords (search parts)
-
 pub record Known (ws : List ℕ) (cs : List Float) (f s : List ℕ) : Type 0 where
   pub sound : Sound ws cs
   pub fold : listsOkIn f ≡ true
@@ -154,7 +150,7 @@ module _ (ws : List ℕ) (cs : List Float) (f : List ℕ) (t : Tally) (s : List 
     pub known : Known ws cs f s
     known =
         let a = lent-fine lent fine in
-        record { sound = sound ws cs (a .tables); fold = a .fold; long = fold-long f (a .fold); set = a .set }
+        record { sound = sound ws cs (a .tables); fold = a .fold; long = a .fold-size; set = a .set }
 
     module _ (n i : ℕ) (found : lookup ws 5 n ≡ o.At i) where
       pub ready : LinkWords ws i

@@ -36,9 +36,10 @@ use Rattle.edit.specs.declared.StopRule.{StopRule}
 use Rattle.edit.specs.Edit.{Draft}
 use Rattle.edit.specs.Lent.{Lent, CallLeft}
 use Rattle.edit.specs.StopLine.{NewStopLine, ruleAt, stopLineEdit, addStopLine}
-use Rattle.finishing.specs.Finish.{lentChecks, planned, CallEnds, FoldSettled}
-use Rattle.finishing.proofs.CallLaws.{LentFine, lent-fine, lent-refused, plan-refused, call-refused, ends-refused, ends-done, not-late, plan-within}
-use Rattle.stop_lines.specs.Stop.{newStopLine, placedDraft, ruleRoom, roomFor, clampedBy, lineChanges, SetDrafted, nextAfter, ruled, LinePlanned}
+use Rattle.finishing.specs.Finish.{lentChecks, planned, CallEnds, TakenIn}
+use Rattle.finishing.proofs.CallLaws.{LentFine, lent-fine, lent-refused, plan-refused, call-refused, plan-within}
+use Rattle.finishing.proofs.EndLaws.{ends-refused, not-late, takes, ends-done}
+use Rattle.stop_lines.specs.Stop.{newStopLine, placedDraft, ruleRoom, roomFor, clampedBy, lineChanges, SetDrafted, LineSettles, nextAfter, ruled, LinePlanned}
 use Rattle.stop_lines.proofs.RoomLaws.{within-room, HasRoom, has-room}
 use Rattle.stop_lines.proofs.DraftLaws.{draft-changes, draft-next, draft-map, draft-id, exact, fits-alike}
 
@@ -59,8 +60,7 @@ module _ (ws : List ℕ) (cs : List Float) (f : List ℕ) (t : Tally) (s : List 
       abbrev draft : Draft
       draft = placedDraft rule lanes (mapOf ws cs) placed
 
-      module _ (n : ℕ) (en : n ≡ max 1 (nextOf ws)) (t0 : List ℕ) (ht : SetDrafted rule n (clampedBy clamped (getD lanes 0 0)) t0) (late : Bool) (el : late ≡ leb (2 ^ 64) (nextAfter rule n))
-          (r : Checked) (f′ t1 : List ℕ) (h : FoldSettled f t0 late r f′ t1) where
+      module _ (n : ℕ) (en : n ≡ max 1 (nextOf ws)) (late : Bool) (el : late ≡ leb (2 ^ 64) (nextAfter rule n)) (r : Checked) (h : LineSettles f rule n (clampedBy clamped (getD lanes 0 0)) late r) where
         is-fresh : n ≡ fresh (mapOf ws cs)
         unfolding mapOf
         is-fresh = en
@@ -71,28 +71,34 @@ module _ (ws : List ℕ) (cs : List Float) (f : List ℕ) (t : Tally) (s : List 
         changes-are : draft .changes ≡ lineChanges rule n (suc n) (clampedBy clamped (getD lanes 0 0))
         changes-are = draft-changes lanes (mapOf ws cs) placed rule ∙ ap (λ (i : ℕ). lineChanges rule i (suc i) (clampedBy clamped (getD lanes 0 0))) (sym is-fresh)
 
-        alike : foldFits (foldStep (changeSetOf f) (normalize (changeSetOf t0))) ≡ foldFits (foldStep (changeSetOf f) (normalize (draft .changes)))
+        abbrev tried : ChangeSet
+        tried = lineChanges rule n (h .second) (clampedBy clamped (getD lanes 0 0))
+
+        alike : foldFits (foldStep (changeSetOf f) (normalize tried)) ≡ foldFits (foldStep (changeSetOf f) (normalize (draft .changes)))
         alike =
-            ap (λ (x : ChangeSet). foldFits (foldStep (changeSetOf f) (normalize x))) (ht .set)
-            ∙ fits-alike (changeSetOf f) (mapOf ws cs .next) n (ht .second) (known .below) (let a = is-fresh in omega arith) (clampedBy clamped (getD lanes 0 0)) (ht .follows .from) rule
+            fits-alike (changeSetOf f) (mapOf ws cs .next) n (h .second) (known .below) (let a = is-fresh in omega arith) (clampedBy clamped (getD lanes 0 0)) (h .follows .from) rule
             ∙ ap (λ (x : ChangeSet). foldFits (foldStep (changeSetOf f) (normalize x))) (sym changes-are)
 
-        pub out-refused : (x : Refusal) → r ≡ k.Refused x → (a : Called) (u : Tally) → (a ≡ c.Refused x) × (u ≡ t) → CallEnds lent draft a (record { words = ws; coords = cs; fold = f′; tally = u; set = s })
-        out-refused x q a u e = ends-refused lent fine draft t0 late late-is r f′ t1 h alike x q a u e
+        pub out-refused : (x : Refusal) → r ≡ k.Refused x → (a : Called) (u : Tally) → (a ≡ c.Refused x) × (u ≡ t) → CallEnds lent draft a (record { words = ws; coords = cs; fold = f; tally = u; set = s })
+        out-refused = ends-refused lent fine draft tried late late-is alike r (h .settles)
 
         module _ (q : r ≡ k.Fine) where
           pub numbers-left : nextAfter rule (max 1 (nextOf ws)) < 2 ^ 64
-          numbers-left = rw (← en) (leb-false (2 ^ 64) (nextAfter rule n) (sym el ∙ not-late f t0 late r f′ t1 h q))
+          numbers-left = rw (← en) (leb-false (2 ^ 64) (nextAfter rule n) (sym el ∙ not-late lent fine draft tried late late-is alike r (h .settles) q))
 
-          same-set : changeSetOf t0 ≡ draft .changes
-          same-set = ht .set ∙ exact rule n (ht .second) (clampedBy clamped (getD lanes 0 0)) (ht .follows) (rw (← en) at numbers-left) ∙ sym changes-are
+          module _ (t0 : List ℕ) (ht : SetDrafted rule n (clampedBy clamped (getD lanes 0 0)) t0) where
+            same-set : changeSetOf t0 ≡ draft .changes
+            same-set = ht .set ∙ exact rule n (ht .second) (clampedBy clamped (getD lanes 0 0)) (ht .follows) (rw (← en) at numbers-left) ∙ sym changes-are
 
-          pub out-done : (s′ ws′ : List ℕ) (cs′ : List Float) (u : Tally) → changeSetOf s′ ≡ changeSetOf t1
-              → mapOf ws′ cs′ ≡ ruled (ruleAt rule n) (withLine (mapOf ws cs) (polylineOf pts)) lanes → u ≡ tallyOf (changeSetOf f′)
-              → CallEnds lent draft (c.Done n) (record { words = ws′; coords = cs′; fold = f′; tally = u; set = s′ })
-          out-done s′ ws′ cs′ u es em eu =
-              ends-done lent fine draft t0 late late-is r f′ t1 h same-set q ws′ cs′ u s′ n
-              (em ∙ ap (λ (i : ℕ). ruled (ruleAt rule i) (withLine (mapOf ws cs) (polylineOf pts)) lanes) is-fresh ∙ sym (draft-map lanes (mapOf ws cs) placed rule)) eu es (is-fresh ∙ sym (draft-id lanes (mapOf ws cs) placed rule))
+            pub taken : foldFits (foldStep (changeSetOf f) (normalize (changeSetOf t0))) ≡ true
+            taken = takes lent fine draft tried late late-is alike r (h .settles) q t0 same-set
+
+            pub out-done : (f′ t1 : List ℕ) → TakenIn f t0 f′ t1 → (ws′ : List ℕ) (cs′ : List Float) (u : Tally)
+                → mapOf ws′ cs′ ≡ ruled (ruleAt rule n) (withLine (mapOf ws cs) (polylineOf pts)) lanes → u ≡ tallyOf (changeSetOf f′)
+                → CallEnds lent draft (c.Done n) (record { words = ws′; coords = cs′; fold = f′; tally = u; set = t1 })
+            out-done f′ t1 w ws′ cs′ u em eu =
+                ends-done lent fine draft tried late late-is alike r (h .settles) q t0 same-set f′ t1 w ws′ cs′ u n
+                (em ∙ ap (λ (i : ℕ). ruled (ruleAt rule i) (withLine (mapOf ws cs) (polylineOf pts)) lanes) is-fresh ∙ sym (draft-map lanes (mapOf ws cs) placed rule)) eu (is-fresh ∙ sym (draft-id lanes (mapOf ws cs) placed rule))
 
       module _ (within : withinCeilings (draft .map) ≡ true) (few : length pts ≤ 192) where
         pub room-left : HasRoom rule (length lanes) (countOf ws 2) (countOf ws 5)

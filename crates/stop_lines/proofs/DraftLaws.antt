@@ -23,9 +23,12 @@ use Rattle.place.specs.Place.{Placed}
 use Rattle.edit.specs.declared.StopRule.{StopRule}
 use Rattle.edit.specs.declared.StopRule.the-variants.{StopSign, Marking, NoRule}
 use Rattle.edit.specs.StopLine.{ruleAt, lineDraft}
-use Rattle.finishing.specs.Finish.{RoomyAll}
+use Rattle.placing.specs.declared.Checked.{Checked}
+use Rattle.placing.specs.declared.Checked.the-variants.{Fine}
+use Rattle.finishing.specs.Finish.{RoomyAll, Few, FoldRoom, Settles}
+use Rattle.finishing.proofs.EndLaws.{room-settles}
 use Rattle.finishing.proofs.FreshLaws.{Below, New, new-all, FoldBelow, fresh-fits}
-use Rattle.stop_lines.specs.Stop.{placedDraft, clampedBy, lineChanges, Following, Holds, SetDrafted, nextAfter, ruled}
+use Rattle.stop_lines.specs.Stop.{placedDraft, clampedBy, lineChanges, Following, Holds, SetDrafted, LineSettles, nextAfter, ruled}
 
 -- ---- numbers
 
@@ -96,6 +99,24 @@ module _ (rule : StopRule) (n : ℕ) (w : List Warning) (s : List ℕ) (h : Hold
     set = g .set ∙ rw (h .set, e);
     room = record { lists = g .room; warnings = let y = g .count in let v = h .warned in omega arith };
   }
+
+-- ---- the fold
+
+few-entries : (rule : StopRule) (n x : ℕ) (w : List Warning) → Few (lineChanges rule n x w)
+few-entries StopSign n x w = record { created = omega arith; modified = omega arith; deleted = omega arith }
+few-entries Marking n x w = record { created = omega arith; modified = omega arith; deleted = omega arith }
+few-entries NoRule n x w = record { created = omega arith; modified = omega arith; deleted = omega arith }
+
+module _ (f : List ℕ) (rule : StopRule) (n : ℕ) (w : List Warning) (late : Bool) where
+  pub fold-takes : (b : Bool) → FoldRoom f late b → b ≡ true → LineSettles f rule n w late Fine
+  fold-takes b h q = record {
+    second = n + 1;
+    follows = record { from = omega arith; next = λ _. refl };
+    settles = room-settles f late b h q (lineChanges rule n (n + 1) w) (few-entries rule n (n + 1) w);
+  }
+
+  pub fold-tried : (d : List ℕ) → SetDrafted rule n w d → (r : Checked) → Settles f (changeSetOf d) late r → LineSettles f rule n w late r
+  fold-tried d ht r h = record { second = ht .second; follows = ht .follows; settles = rw (ht .set) at h }
 
 -- ---- the draft's parts
 

@@ -23,6 +23,7 @@ use Rattle.place.specs.declared.Placement.{Placement}
 use Rattle.place.specs.declared.Placement.the-variants.{Given}
 use Rattle.place.specs.Place.{Placed}
 use Rattle.place.specs.Values as line
+use Rattle.placing.specs.declared.Checked.{Checked}
 use Rattle.placing.specs.declared.Checked.the-variants.{Fine}
 use Rattle.placing.specs.declared.PlacedLine.{PlacedLine}
 use Rattle.placing.specs.Answers.{placedAnswer}
@@ -30,7 +31,7 @@ use Rattle.edit.specs.declared.StopRule.{StopRule}
 use Rattle.edit.specs.declared.StopRule.the-variants.{StopSign, Marking, NoRule}
 use Rattle.edit.specs.Edit.{Draft}
 use Rattle.edit.specs.StopLine.{NewStopLine, ruleAt, lineDraft, stopLineEdit}
-use Rattle.finishing.specs.Finish.{RoomyAll, planned}
+use Rattle.finishing.specs.Finish.{RoomyAll, planned, Settles}
 
 abbrev pub newStopLine : List ℕ → Placement → List Float → StopRule → NewStopLine
 newStopLine lanes how given rule = record { lanes = lanes; placement = how; points = given; rule = rule }
@@ -100,6 +101,12 @@ pub record SetDrafted (rule : StopRule) (n : ℕ) (w : List Warning) (s : List �
   pub follows : Following n second
   pub set : changeSetOf s ≡ lineChanges rule n second w
   pub room : RoomyAll s
+
+-- r answers as settling the line's set with the fold f does
+pub record LineSettles (f : List ℕ) (rule : StopRule) (n : ℕ) (w : List Warning) (late : Bool) (r : Checked) : Type 0 where
+  pub second : ℕ
+  pub follows : Following n second
+  pub settles : Settles f (lineChanges rule n second w) late r
 
 -- ---- what is stored
 

@@ -1,13 +1,15 @@
-// The change set of a new line, before it is normalized.
+// The change set of a new line, before it is normalized, and whether the fold takes it.
 use edit::StopRule;
+use placing::Checked;
 ghost use mathlib.Core.Path.{_≡_};
+ghost use mathlib.Core.Bool.{true};
 ghost use Prim.Native.Nat.{_+_, _^_, _≤_, _<_};
 ghost use mathlib.Core.List.{[], _∷_, _++_};
 ghost use lib.Dec.{leb};
 ghost use lib.ListN.{length};
 ghost use Rattle.map.specs.Entity.{entity};
-ghost use Rattle.changes.specs.Layout.{setWords};
-ghost use Rattle.stop_lines.specs.Stop.{clampedBy, lineChanges, Following, Holds, SetDrafted, nextAfter};
+ghost use Rattle.changes.specs.Layout.{setWords, listsOkIn};
+ghost use Rattle.stop_lines.specs.Stop.{clampedBy, lineChanges, Following, Holds, SetDrafted, LineSettles, nextAfter};
 
 const LAST: u64 = 18446744073709551615;
 
@@ -53,4 +55,24 @@ pub fn draft_set(draft: &mut [u64], rule: StopRule, number: u64, clamped: bool, 
         StopRule::Marking => building::push(draft, 0, 8, second),
         StopRule::NoRule => building::warn(draft, 2, 5, number),
     }
+}
+
+// What settling the line's set with the fold answers. Only where numbers are spent or the fold is nearly full is a set drafted to find out, in memory of its own.
+pub fn check_fold(
+    fold: &[u64],
+    rule: StopRule,
+    number: u64,
+    clamped: bool,
+    lane: u64,
+    late: bool,
+) -> Checked
+    requires { ⌜ listsOkIn (now fold) ≡ true ⌝ }
+    ensures { λ r. ⌜ LineSettles (now (fold .entry)) rule number (clampedBy clamped lane) late r ⌝ }
+{
+    if finishing::fold_room(fold, late) {
+        return Checked::Fine;
+    }
+    let mut draft = [0u64; 3556];
+    draft_set(&mut draft, rule, number, clamped, lane);
+    finishing::settles(fold, &mut draft, late)
 }

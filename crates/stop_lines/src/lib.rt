@@ -24,7 +24,7 @@ ghost use Rattle.edit.specs.StopLine.{addStopLine};
 ghost use Rattle.finishing.specs.Finish.{lentChecks, CallEnds};
 ghost use Rattle.stop_lines.specs.Stop.{newStopLine, placedDraft, clampedBy};
 
-// The plan carried out: the change set settled with the fold, and only then all else is stored.
+// The plan carried out: nothing is stored before the fold is known to take the change set.
 fn carry_out(
     words: &mut [u64],
     coords: &mut [f64],
@@ -40,14 +40,14 @@ fn carry_out(
     ensures { λ r. ⌜ CallEnds (record { words = now (words .entry); coords = now (coords .entry); fold = now (fold .entry); tally = tally; set = now (set .entry) }) (placedDraft rule (now (lanes .entry)) (mapOf (now (words .entry)) (now (coords .entry))) (record { points = polylineOf (now (points .entry)); warnings = clampedBy clamped (getD (now (lanes .entry)) 0 0) })) (r .called) (record { words = now (words .exit); coords = now (coords .exit); fold = now (fold .exit); tally = r .tally; set = now (set .exit) }) ⌝ }
 {
     let number = map::update::fresh(words);
-    let mut set_drafted = [0u64; 3556];
-    draft::draft_set(&mut set_drafted, rule, number, clamped, lanes[0]);
+    let lane = lanes[0];
     let late = draft::is_late(rule, number);
-    let settled = finishing::settle(fold, &mut set_drafted, late);
+    let settled = draft::check_fold(fold, rule, number, clamped, lane, late);
     if let Checked::Refused(r) = settled {
         return finishing::refused(r, tally);
     }
-    finishing::copy_set(set, &set_drafted);
+    draft::draft_set(set, rule, number, clamped, lane);
+    finishing::take_in(fold, set);
     storing::store(words, coords, points, rule, number, lanes);
     Answered {
         called: Called::Done(number),

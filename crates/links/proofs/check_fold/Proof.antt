@@ -5,7 +5,7 @@ use Rattle.links.proofs.check_fold.Statement.{statement}
 use Rattle.links.proofs.check_fold.Tie as tie
 
 fold-room-requires : tie.Need-fold-room-requires
-fold-room-requires c κs = K.fold-long _ (c .before .pre)
+fold-room-requires c κs = search needs
 
 returns : tie.Need-returns
 returns c = K.fold-takes _ _ _ _ (c .before .fold-room .ensures) (c .if1 .taken)
