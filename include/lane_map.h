@@ -1,4 +1,5 @@
-/* Edits of a lane map. Written in Rattle and proved; crates/edit_export has the contract of each function.
+/* Edits of a lane map, runs of edits, and files. Written in Rattle and proved: crates/edit_export has the contract of each edit,
+   crates/run_export of each run, crates/files_export of each function on files (libedit_export.a and so on).
 
    Every call is handed its memory and answers for every input: nothing is required of lengths, numbers or contents but that the
    memory is there and that no two pieces that are written overlap anything else that is lent. A slice is a pointer and a count
@@ -77,6 +78,47 @@ uint64_t lane_map_run_calls(
     uint64_t *fold, size_t fold_len, uint64_t tally[3], uint64_t *set, size_t set_len,
     const uint64_t *calls, size_t calls_len, const uint64_t *lists, size_t lists_len, const double *reals, size_t reals_len,
     uint64_t *answers, size_t answers_len);
+
+/* A run from a map file to its change set file: opens the file, carries out the calls as lane_map_run_calls does, and writes the
+   running fold's change set file at the beginning of buffer; the bytes after it stay.
+   file:    the bytes of the map file. What words, coords, fold and tally hold before the call has no meaning.
+   written: two words, 0 and how many bytes were written, or 14 and 0 where the buffer is too short: then the buffer stays, but the
+            run has been carried out, and lane_map_write_changes writes its fold into a longer one.
+   The result: 0, or 12 (slices of other lengths, bytes that are no map file), 13 or 14 (answers too short), where nothing was
+   carried out and all memory is as it was, written too. */
+uint64_t lane_map_run_opened(
+    const uint8_t *file, size_t file_len,
+    uint64_t *words, size_t words_len, double *coords, size_t coords_len,
+    uint64_t *fold, size_t fold_len, uint64_t tally[3], uint64_t *set, size_t set_len,
+    const uint64_t *calls, size_t calls_len, const uint64_t *lists, size_t lists_len, const double *reals, size_t reals_len,
+    uint64_t *answers, size_t answers_len, uint8_t *buffer, size_t buffer_len, uint64_t written[2]);
+
+/* Files. The result is 0, or the refusal's number, and then all memory is as it was.
+   file:   all bytes of a file, from its first to its last: bytes left over are a fault.
+   buffer: where a file is written, from its first byte on; the bytes after the file stay.
+   size:   one word, how many bytes of the buffer are the file; told only where it was written. */
+
+/* A map file into the map's two slices. 12: other lengths, or bytes that are no map file. */
+uint64_t lane_map_read(
+    const uint8_t *file, size_t file_len, uint64_t *words, size_t words_len, double *coords, size_t coords_len);
+
+/* The opening of a run: a map file into the map's two slices, fold made empty, tally three zeros. 12 as above; then 13 where fold
+   has another length. */
+uint64_t lane_map_open(
+    const uint8_t *file, size_t file_len, uint64_t *words, size_t words_len, double *coords, size_t coords_len,
+    uint64_t *fold, size_t fold_len, uint64_t tally[3]);
+
+/* A change set file into a set's slice. 13: another length, or bytes that are no change set file. */
+uint64_t lane_map_read_changes(const uint8_t *file, size_t file_len, uint64_t *set, size_t set_len);
+
+/* The map file of the map's two slices. 12: they are no map; 14: the file is longer than the buffer. */
+uint64_t lane_map_write(
+    const uint64_t *words, size_t words_len, const double *coords, size_t coords_len,
+    uint8_t *buffer, size_t buffer_len, uint64_t size[1]);
+
+/* The change set file of a set or of a running fold. 13: it is no set; 14: the file is longer than the buffer. */
+uint64_t lane_map_write_changes(
+    const uint64_t *set, size_t set_len, uint8_t *buffer, size_t buffer_len, uint64_t size[1]);
 
 #ifdef __cplusplus
 }

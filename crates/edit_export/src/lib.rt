@@ -1,29 +1,12 @@
 // The edits for programs in other languages: numbers and slices. The tally is three words, an answer four: 0 done, 1 to 14 the refusal,
 // 15 no call; the number answered; the two details of a refusal. The first word is the result too.
 use call_list::Carried;
-use call_list::Ran;
-use changes::Tally;
 ghost use mathlib.Core.Path.{_≡_};
 ghost use mathlib.Core.Option.{some};
 ghost use Rattle.call_list.specs.Reply.{replyWords};
-ghost use Rattle.call_list.specs.Rows.{lineBy, lightBy, linksBy, rowsIn};
-ghost use Rattle.edit_export.specs.Written.{tallyIn, StepWritten, RunWritten, tallyWords};
-
-fn tally_of(t: &[u64; 3]) -> Tally
-    ensures { λ r. ⌜ r ≡ tallyIn (now (t .entry)) ⌝ }
-{
-    Tally {
-        created: t[0],
-        modified: t[1],
-        deleted: t[2],
-    }
-}
-
-fn put_tally(t: &mut [u64; 3], x: Tally)
-    ensures { λ _. ⌜ now (t .exit) ≡ tallyWords x ⌝ }
-{
-    *t = [x.created, x.modified, x.deleted];
-}
+ghost use Rattle.call_list.specs.Rows.{lineBy, lightBy, linksBy};
+ghost use Rattle.tally_words.specs.Words.{tallyIn, tallyWords};
+ghost use Rattle.edit_export.specs.Written.{StepWritten};
 
 // The answer's words, and the tally; the first word is the result.
 fn answer_with(c: Carried, tally: &mut [u64; 3], answer: &mut [u64; 4]) -> u64
@@ -31,7 +14,7 @@ fn answer_with(c: Carried, tally: &mut [u64; 3], answer: &mut [u64; 4]) -> u64
 {
     let t = c.tally;
     let reply = c.reply;
-    put_tally(tally, t);
+    tally_words::put_tally(tally, t);
     *answer = [reply.what, reply.number, reply.detail, reply.second];
     reply.what
 }
@@ -53,7 +36,7 @@ pub extern "C" fn lane_map_add_stop_line(
 ) -> u64
     ensures { λ r. ⌜ StepWritten (lineBy (now (lanes .entry)) placement measure (now (given .entry)) rule) (record { words = now (words .entry); coords = now (coords .entry); fold = now (fold .entry); tally = tallyIn (now (tally .entry)); set = now (set .entry) }) r (now (answer .exit)) (record { words = now (words .exit); coords = now (coords .exit); fold = now (fold .exit); tally = tallyIn (now (tally .exit)); set = now (set .exit) }) ⌝ }
 {
-    let t = tally_of(tally);
+    let t = tally_words::tally_of(tally);
     let c = numbered::stop_line_by(
         words,
         coords,
@@ -86,7 +69,7 @@ pub extern "C" fn lane_map_add_traffic_signal(
 ) -> u64
     ensures { λ r. ⌜ StepWritten (lightBy (now (lanes .entry)) (now (numbers .entry)) (now (measures .entry)) (now (points .entry)) (now (housing .entry))) (record { words = now (words .entry); coords = now (coords .entry); fold = now (fold .entry); tally = tallyIn (now (tally .entry)); set = now (set .entry) }) r (now (answer .exit)) (record { words = now (words .exit); coords = now (coords .exit); fold = now (fold .exit); tally = tallyIn (now (tally .exit)); set = now (set .exit) }) ⌝ }
 {
-    let t = tally_of(tally);
+    let t = tally_words::tally_of(tally);
     let c = numbered::signal_by(
         words,
         coords,
@@ -118,7 +101,7 @@ pub extern "C" fn lane_map_set_regulatory_links(
 ) -> u64
     ensures { λ r. ⌜ StepWritten (some (linksBy rule (now (lanes .entry)) (now (crosswalks .entry)) (now («stop_lines» .entry)))) (record { words = now (words .entry); coords = now (coords .entry); fold = now (fold .entry); tally = tallyIn (now (tally .entry)); set = now (set .entry) }) r (now (answer .exit)) (record { words = now (words .exit); coords = now (coords .exit); fold = now (fold .exit); tally = tallyIn (now (tally .exit)); set = now (set .exit) }) ⌝ }
 {
-    let t = tally_of(tally);
+    let t = tally_words::tally_of(tally);
     let c = numbered::links_by(
         words,
         coords,
@@ -131,30 +114,4 @@ pub extern "C" fn lane_map_set_regulatory_links(
         stop_lines,
     );
     answer_with(c, tally, answer)
-}
-
-// A list of calls, rows of 26 words with two pools: 0, or 12, 13 or 14 where nothing was carried out.
-#[no_mangle]
-pub extern "C" fn lane_map_run_calls(
-    words: &mut [u64],
-    coords: &mut [f64],
-    fold: &mut [u64],
-    tally: &mut [u64; 3],
-    set: &mut [u64],
-    calls: &[u64],
-    lists: &[u64],
-    reals: &[f64],
-    answers: &mut [u64],
-) -> u64
-    ensures { λ r. ⌜ RunWritten (rowsIn (now (calls .entry)) (now (lists .entry)) (now (reals .entry))) (record { words = now (words .entry); coords = now (coords .entry); fold = now (fold .entry); tally = tallyIn (now (tally .entry)); set = now (set .entry) }) (now (answers .entry)) r (record { words = now (words .exit); coords = now (coords .exit); fold = now (fold .exit); tally = tallyIn (now (tally .exit)); set = now (set .exit) }) (now (answers .exit)) ⌝ }
-{
-    let t = tally_of(tally);
-    let a = runs::run_calls(words, coords, fold, t, set, calls, lists, reals, answers);
-    let k = a.tally;
-    put_tally(tally, k);
-    let ran = a.ran;
-    match ran {
-        Ran::Done(_) => 0,
-        Ran::Refused(x) => refusal::number(x),
-    }
 }

@@ -9,6 +9,7 @@ use Rattle.refusal.specs.Refusal.{refusalNumber}
 use Rattle.refusal.specs.Answer.{Answer, refused, done, refusedAs}
 use Rattle.codec.specs.Format.{Bytes}
 use Rattle.changes.specs.declared.Tally.{Tally}
+use Rattle.tally_words.specs.Words.{tallyWords}
 use Rattle.files.specs.declared.MapRead.{MapRead}
 use Rattle.files.specs.declared.MapRead.the-variants as R
 use Rattle.files.specs.declared.ChangesRead.{ChangesRead}
@@ -34,10 +35,10 @@ module _ (s : Bytes) (ws : List ℕ) (cs : List Float) (ws′ : List ℕ) (cs′
       rw (← z .is) (q, z .untouched)
 
   module _ (fs t fs′ : List ℕ) where
-    pub open-done : (a : Opened) (k : Tally) → MapOpened s ws cs fs a ws′ cs′ fs′ → a ≡ O.Done k → MapOpenedLeft s ws cs fs t 0 ws′ cs′ fs′ (k .created ∷ k .modified ∷ k .deleted ∷ [])
-    open-done a k h e =
+    pub open-done : (a : Opened) (k : Tally) (t′ : List ℕ) → MapOpened s ws cs fs a ws′ cs′ fs′ → a ≡ O.Done k → t′ ≡ tallyWords k → MapOpenedLeft s ws cs fs t 0 ws′ cs′ fs′ t′
+    open-done a k t′ h e p =
         let z : MapOpened s ws cs fs (O.Done k) ws′ cs′ fs′ = rw e at h in
-        rw (← z .is) (refl, refl)
+        rw (← z .is, p) (refl, refl)
 
     pub open-refused : (a : Opened) (x : Refusal) (r : ℕ) → MapOpened s ws cs fs a ws′ cs′ fs′ → a ≡ O.Refused x → r ≡ refusalNumber x → MapOpenedLeft s ws cs fs t r ws′ cs′ fs′ t
     open-refused a x r h e q =

@@ -3,17 +3,17 @@ use Prim.Native.Nat.{ℕ}
 use mathlib.Core.Path.{_≡_}
 use mathlib.Core.List.{List, [], _∷_}
 use lib.Ieee.{Float}
-use lib.ListN.{length, getD}
+use lib.ListN.{length}
 use Rattle.refusal.specs.Refusal.{refusalNumber}
 use Rattle.refusal.specs.Answer.{Answer, refused, done}
 use Rattle.codec.specs.Format
 use Rattle.codec.specs.Format.{Bytes}
 use Rattle.map.specs.MapFile.{mapFile}
 use Rattle.map.specs.Tables.{mapOf}
-use Rattle.changes.specs.declared.Tally.{Tally}
 use Rattle.changes.specs.ChangeFile.{changeFile}
 use Rattle.changes.specs.Layout.{changeSetOf}
 use Rattle.changes.specs.Running.{State}
+use Rattle.tally_words.specs.Words.{tallyIn}
 use Rattle.files.specs.ReadInto.{readInto, readSet}
 use Rattle.files.specs.OpenInto.{openInto}
 use Rattle.files.specs.WriteOut.{writeTables, writeSet}
@@ -30,10 +30,6 @@ MapReadLeft s ws cs r ws′ cs′ = Left (readInto s (length ws) (length cs)) r 
 
 abbrev pub ChangesReadLeft : Bytes → List ℕ → ℕ → List ℕ → Type 0
 ChangesReadLeft s t r t′ = Left (readSet s (length t)) r (changeSetOf t′) (t′ ≡ t)
-
--- three words as a tally
-abbrev pub tallyIn : List ℕ → Tally
-tallyIn t = record { created = getD t 0 0; modified = getD t 1 0; deleted = getD t 2 0 }
 
 abbrev pub stateIn : List ℕ → List Float → List ℕ → List ℕ → State
 stateIn ws cs fs t = record { map = mapOf ws cs; fold = changeSetOf fs; tally = tallyIn t }

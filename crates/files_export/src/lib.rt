@@ -32,7 +32,7 @@ pub extern "C" fn lane_map_open(
     let opened = files::open_map(file, words, coords, fold);
     match opened {
         Opened::Done(t) => {
-            *tally = [t.created, t.modified, t.deleted];
+            tally_words::put_tally(tally, t);
             0
         }
         Opened::Refused(x) => refusal::number(x),

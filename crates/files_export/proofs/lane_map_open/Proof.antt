@@ -10,6 +10,9 @@ open-map-requires c κs = search needs
 enum-known-opened : tie.Need-enum-known-opened
 enum-known-opened c = search needs
 
+put-tally-requires : tie.Need-put-tally-requires
+put-tally-requires c κs = search needs
+
 enum-known-opened-2 : tie.Need-enum-known-opened-2
 enum-known-opened-2 c = search needs
 
@@ -46,6 +49,7 @@ lane-map-open-spec =
     (tie.spec
     open-map-requires
     enum-known-opened
+    put-tally-requires
     enum-known-opened-2
     number-requires
     same-length

@@ -1,8 +1,8 @@
--- `edit_export::lane_map_run_calls` meets its contract. Assumes nothing.
-use Rattle.edit_export.proofs.Laws.{run-done, run-refused, run-as}
+-- `run_export::lane_map_run_calls` meets its contract. Assumes nothing.
+use Rattle.run_export.proofs.Laws.{run-done, run-refused, run-as}
 use borrow.Author.Needs.{needs}
-use Rattle.edit_export.proofs.lane_map_run_calls.Statement.{statement}
-use Rattle.edit_export.proofs.lane_map_run_calls.Tie as tie
+use Rattle.run_export.proofs.lane_map_run_calls.Statement.{statement}
+use Rattle.run_export.proofs.lane_map_run_calls.Tie as tie
 
 tally-of-requires : tie.Need-tally-of-requires
 tally-of-requires c κs = search needs
