@@ -1,0 +1,202 @@
+// Requests of stored samples carried out on lent memory, and what was stored of their answers compared.
+use call_list::Carried;
+use call_list::Reply;
+use changes::Tally;
+use files::Opened;
+use files::Written;
+use sample_text::bytes;
+use sample_text::expect_number;
+use sample_text::name_at;
+use sample_text::number_at;
+
+fn carry_row(
+    words: &mut [u64],
+    coords: &mut [f64],
+    fold: &mut [u64],
+    tally: Tally,
+    set: &mut [u64],
+    row: &[u64],
+    lists: &[u64],
+    reals: &[f64],
+) -> Carried {
+    if row.len() != 26 {
+        return call_list::not_called(tally);
+    }
+    row_calls::carry_out(words, coords, fold, tally, set, row, lists, reals)
+}
+
+// The edit that stands from `at` on, carried out.
+pub fn carry(
+    text: &[u8],
+    at: usize,
+    words: &mut [u64],
+    coords: &mut [f64],
+    fold: &mut [u64],
+    tally: Tally,
+    set: &mut [u64],
+) -> Carried {
+    let mut row = [0u64; 26];
+    let mut lists = [0u64; 96];
+    let mut reals = [0.0; 436];
+    requests::request_into(text, at, &mut row, &mut lists, &mut reals);
+    carry_row(words, coords, fold, tally, set, &row, &lists, &reals)
+}
+
+fn open_file(
+    file: &[u8],
+    words: &mut [u64],
+    coords: &mut [f64],
+    fold: &mut [u64],
+    tally: Tally,
+) -> Carried {
+    let o = files::open_map(file, words, coords, fold);
+    match o {
+        Opened::Done(t) => Carried {
+            reply: reply(0),
+            tally: t,
+        },
+        Opened::Refused(why) => Carried {
+            reply: reply(refusal::number(why)),
+            tally,
+        },
+    }
+}
+
+// An answer without number and details.
+pub fn reply(what: u64) -> Reply {
+    Reply {
+        what,
+        number: 0,
+        detail: 0,
+        second: 0,
+    }
+}
+
+// The map file whose bytes stand from `at` on, opened: a run begins. The buffer is room for the file.
+pub fn open(
+    text: &[u8],
+    at: usize,
+    buffer: &mut [u8],
+    words: &mut [u64],
+    coords: &mut [f64],
+    fold: &mut [u64],
+    tally: Tally,
+) -> Carried {
+    let n = bytes::bytes_at(text, at, buffer);
+    open_file(&buffer[..n], words, coords, fold, tally)
+}
+
+// Every word and every coordinate of the memory that a call is lent, in one number, to tell whether a refusal altered any.
+pub fn checksum(words: &[u64], coords: &[f64], fold: &[u64], set: &[u64]) -> u64 {
+    let a = bytes::hash_words(words, 0xCBF29CE484222325);
+    let b = bytes::hash_doubles(coords, a);
+    let c = bytes::hash_words(fold, b);
+    bytes::hash_words(set, c)
+}
+
+// ---- the stored answer, from `at` on: where the next word starts, or 0 where it is another. 0 stays.
+
+fn expect_start(text: &[u8], at: usize, buffer: &[u8], n: usize) -> usize {
+    if at == 0 {
+        return 0;
+    }
+    if buffer.len() < n {
+        return 0;
+    }
+    bytes::expect_file(text, at, &buffer[..n])
+}
+
+// The file of a change set or a fold. The buffer is room for it.
+pub fn expect_set(text: &[u8], at: usize, set: &[u64], buffer: &mut [u8]) -> usize {
+    let w = files::write_changes(set, buffer);
+    match w {
+        Written::Done(n) => expect_start(text, at, buffer, n),
+        Written::Refused(_) => 0,
+    }
+}
+
+// The map's file, or its hash.
+pub fn expect_map(
+    text: &[u8],
+    at: usize,
+    words: &[u64],
+    coords: &[f64],
+    buffer: &mut [u8],
+) -> usize {
+    let w = files::write_map(words, coords, buffer);
+    match w {
+        Written::Done(n) => expect_start(text, at, buffer, n),
+        Written::Refused(_) => 0,
+    }
+}
+
+// Whether the line ends before this place; false for 0.
+pub fn line_over(text: &[u8], at: usize) -> bool {
+    if at == 0 {
+        return false;
+    }
+    if text.len() < at {
+        return false;
+    }
+    text[at - 1] == 10
+}
+
+// The number that the samples have for an answer: for links they have 0, and here it is the rule's.
+fn stored_number(text: &[u8], request: usize, number: u64) -> u64 {
+    let w = name_at(text, request);
+    if w.value != 0x6C696E6B73 {
+        return number;
+    }
+    let rule = number_at(text, w.next);
+    if rule.value == number {
+        return 0;
+    }
+    number
+}
+
+// Whether the stored answer is `done` with this number and these files.
+pub fn done_as(
+    text: &[u8],
+    request: usize,
+    answer: usize,
+    number: u64,
+    words: &[u64],
+    coords: &[f64],
+    fold: &[u64],
+    set: &[u64],
+    buffer: &mut [u8],
+) -> bool {
+    let w = name_at(text, answer);
+    if w.value != 0x646F6E65 {
+        return false;
+    }
+    let a = expect_number(text, w.next, stored_number(text, request, number));
+    let b = expect_set(text, a, set, buffer);
+    let c = expect_map(text, b, words, coords, buffer);
+    line_over(text, expect_set(text, c, fold, buffer))
+}
+
+// The details that the samples have of a refusal: kind and number of an unknown record, one detail of 3 to 8, else none.
+fn expect_details(text: &[u8], at: usize, r: Reply) -> usize {
+    if r.what == 1 {
+        return at;
+    }
+    if 8 < r.what {
+        return at;
+    }
+    let a = expect_number(text, at, r.detail);
+    if r.what == 2 {
+        return expect_number(text, a, r.second);
+    }
+    a
+}
+
+// Whether the stored answer is this refusal with its details.
+pub fn refused_as(text: &[u8], answer: usize, r: Reply) -> bool {
+    let w = name_at(text, answer);
+    if w.value != 0x72656675736564 {
+        return false;
+    }
+    let a = expect_number(text, w.next, r.what);
+    line_over(text, expect_details(text, a, r))
+}
