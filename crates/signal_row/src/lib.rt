@@ -14,6 +14,7 @@ use map::bulb_arrow_number;
 use map::bulb_color_number;
 use map::signal_kind_number;
 ghost use mathlib.Core.Path.{_≡_};
+ghost use mathlib.Core.List.{[], _∷_};
 ghost use Prim.Native.Nat.{_≤_};
 ghost use lib.Ieee.{Float};
 ghost use Rattle.rows.specs.Lists.{orDefault};
@@ -144,6 +145,27 @@ fn bulb_numbers(b: SignalBulb) -> BulbNumbers
     }
 }
 
+// The coordinates after the housing: the height, and four positions.
+fn row_more(height: f64, p: Point3, s: Point3, t: Point3, u: Point3) -> [f64; 13]
+    ensures { λ r. ⌜ r ≡ height ∷ p .x ∷ p .y ∷ p .z ∷ s .x ∷ s .y ∷ s .z ∷ t .x ∷ t .y ∷ t .z ∷ u .x ∷ u .y ∷ u .z ∷ [] ⌝ }
+{
+    [
+        height,
+        p.x,
+        p.y,
+        p.z,
+        s.x,
+        s.y,
+        s.z,
+        t.x,
+        t.y,
+        t.z,
+        u.x,
+        u.y,
+        u.z,
+    ]
+}
+
 // The row of a signal whose housing has this many points, in the form that is pushed. Room past the lamps' count has no meaning.
 pub fn signal_row(number: u64, q: SignalRequest, points: usize, bulbs: Bulbs) -> SignalRow
     requires { ⌜ bulbs .count ≤ 4 ⌝ }
@@ -182,21 +204,7 @@ pub fn signal_row(number: u64, q: SignalRequest, points: usize, bulbs: Bulbs) ->
             d.color,
             d.arrow,
         ],
-        more: [
-            height_of(h),
-            p.x,
-            p.y,
-            p.z,
-            s.x,
-            s.y,
-            s.z,
-            t.x,
-            t.y,
-            t.z,
-            u.x,
-            u.y,
-            u.z,
-        ],
+        more: row_more(height_of(h), p, s, t, u),
     }
 }
 

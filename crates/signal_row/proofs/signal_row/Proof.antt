@@ -39,8 +39,11 @@ signal-kind-number-requires c κs = search needs
 height-of-requires : tie.Need-height-of-requires
 height-of-requires c κs = search needs
 
+row-more-requires : tie.Need-row-more-requires
+row-more-requires c κs = search needs
+
 returns : tie.Need-returns
-returns c = row-made (c .before .before .before .before .before .before .before .before .before .before .before .before .before .before .before .args .bulbs .bulbs) (long (c .before .before .before .before .before .before .before .before .before .before .before .before .before .before .before)) _ _ _ _ _ (c .before .before .before .before .before .bulb-numbers .ensures) (c .before .before .before .before .bulb-numbers2 .ensures) (c .before .before .before .bulb-numbers3 .ensures) (c .before .before .bulb-numbers4 .ensures) _ _ _ _ _ (c .before .before .before .before .before .before .before .before .before .before .before .before .before .before .before .args .q) (c .before .before .before .before .before .before .before .before .before .before .before .before .before .before .before .args .bulbs) refl refl (c .before .before .before .before .before .before .before .before .before .before .before .before .before .before .before .pre) (c .before .signal-kind-number .ensures) (c .height-of .ensures)
+returns c = rw (c .row-more .ensures) (row-made (c .before .before .before .before .before .before .before .before .before .before .before .before .before .before .before .before .args .bulbs .bulbs) (long (c .before .before .before .before .before .before .before .before .before .before .before .before .before .before .before .before)) _ _ _ _ _ (c .before .before .before .before .before .before .bulb-numbers .ensures) (c .before .before .before .before .before .bulb-numbers2 .ensures) (c .before .before .before .before .bulb-numbers3 .ensures) (c .before .before .before .bulb-numbers4 .ensures) _ _ _ _ _ (c .before .before .before .before .before .before .before .before .before .before .before .before .before .before .before .before .args .q) (c .before .before .before .before .before .before .before .before .before .before .before .before .before .before .before .before .args .bulbs) refl refl (c .before .before .before .before .before .before .before .before .before .before .before .before .before .before .before .before .pre) (c .before .before .signal-kind-number .ensures) (c .before .height-of .ensures))
 
 pub signal-row-spec : {M : Type 1} → statement M
 signal-row-spec =
@@ -56,4 +59,5 @@ signal-row-spec =
     bulb-numbers-requires-4
     signal-kind-number-requires
     height-of-requires
+    row-more-requires
     returns)
