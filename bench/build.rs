@@ -5,6 +5,8 @@ fn main() {
     println!("cargo:rustc-link-lib=static=root");
     println!("cargo:rustc-link-lib=static=geometry_export");
     println!("cargo:rustc-link-lib=static=edit_export");
+    println!("cargo:rustc-link-lib=static=run_export");
+    println!("cargo:rustc-link-lib=static=files_export");
     println!("cargo:rustc-link-lib=static=validity_export");
     println!("cargo:rerun-if-changed=../target/staticlib");
 }

@@ -2,11 +2,13 @@
 # run.sh DRIVER [arguments]: builds the proved static libraries and the drivers, and runs one of them.
 # Drivers: roots (patterns of all classes against the machine's root), geometry (random polylines against the Rust),
 # edits (random calls in runs against the Rust), edit_times (the edits beside the Rust, timed),
-# validity (the test of a map's tables, beside the Rust's edits),
+# runs (random runs from a map file to its change set file in one call, against the Rust's runs),
+# files (random and damaged map and set files against a codec written from document 01), file_times (files beside that codec,
+# timed), validity (the test of a map's tables, beside the Rust's edits),
 # requests (random requests with the Rust's answers, for target/bin/geometry_replay FILE).
 set -eu
 cd "$(dirname "$0")/.."
-for crate in root geometry_export validity_export edit_export; do
+for crate in root geometry_export validity_export edit_export run_export files_export; do
     rt staticlib "$crate" >/dev/null
 done
 cd bench

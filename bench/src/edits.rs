@@ -146,6 +146,16 @@ fn light(l: &NewLight) -> Args {
     }
 }
 
+/// The boundary carries four lamps and a count: those past the fourth have no position of their own.
+pub fn carried(mut call: Call) -> Call {
+    if let Call::Light(light) = &mut call {
+        for bulb in light.bulbs.iter_mut().flatten().skip(4) {
+            bulb.at = [0.0; 3];
+        }
+    }
+    call
+}
+
 impl Args {
     pub fn of(call: &Call) -> Self {
         match call {

@@ -1,6 +1,8 @@
 //! The proved functions as other languages call them, and what the drivers share.
 
+pub mod damage;
 pub mod edits;
+pub mod files;
 pub mod tables;
 
 mod c {

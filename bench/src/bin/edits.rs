@@ -2,7 +2,7 @@
 //! set bytes, map bytes, fold bytes, tally; after a refusal, every byte of the lent memory. Where 01 answers and the Rust does
 //! not (9, 10, 11, an absent line), the comparison is with the model of 01.
 
-use bench::edits::{Args, Lent, outcome};
+use bench::edits::{Args, Lent, carried, outcome};
 use bench::tables::set_of;
 use oracle::codec::{write_map, write_set};
 use oracle::edits::{Call, Outcome};
@@ -21,16 +21,6 @@ fn smear(lent: &mut Lent, rng: &mut Rng) {
     for f in lent.fold[4..].iter_mut() {
         *f = rng.bits();
     }
-}
-
-/// The boundary carries four lamps and a count: those past the fourth have no position of their own.
-fn carried(mut call: Call) -> Call {
-    if let Call::Light(light) = &mut call {
-        for bulb in light.bulbs.iter_mut().flatten().skip(4) {
-            bulb.at = [0.0; 3];
-        }
-    }
-    call
 }
 
 fn main() {

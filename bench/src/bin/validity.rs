@@ -1,7 +1,8 @@
 //! The proved test of a map's tables, timed on an empty, a tiny and a full map, beside the Rust's edits of the same maps.
 
+use bench::files::full_map;
 use bench::time;
-use oracle::codec::{Bulb, Crosswalk, FileMap, Lane, Line, Point, Rule, Signal, What};
+use oracle::codec::{FileMap, Point, What};
 use oracle::{convert, edits, sample};
 use std::hint::black_box;
 
@@ -129,73 +130,6 @@ impl Tables {
     }
 }
 
-/// Every table at its ceiling, 1,024 points in all; the boundaries of lane i stand apart from those of the others.
-fn full() -> FileMap {
-    let line =
-        |y: f64, n: usize| -> Vec<Point> { (0..n).map(|j| [j as f64 * 10.0, y, 0.0]).collect() };
-    let y = |i: u64| i as f64 * 4.0;
-    FileMap {
-        next: 481,
-        boundaries: (0..128)
-            .map(|i| Line {
-                number: i + 1,
-                points: line(y(i), 2),
-            })
-            .collect(),
-        lanes: (0..64)
-            .map(|i| Lane {
-                number: 129 + i,
-                kind: 0,
-                left: i * 2 + 2,
-                left_reversed: false,
-                right: i * 2 + 1,
-                right_reversed: false,
-                centerline: Some(line(y(i * 2) + 2.0, 2)),
-            })
-            .collect(),
-        stop_lines: (0..64)
-            .map(|i| Line {
-                number: 193 + i,
-                points: line(y(i) + 1.0, 4),
-            })
-            .collect(),
-        signals: (0..64)
-            .map(|i| Signal {
-                number: 257 + i,
-                pedestrian: false,
-                housing: line(y(i) + 3.0, 2),
-                height: None,
-                bulbs: (0..4)
-                    .map(|j| Bulb {
-                        at: [1.0, 2.0, 3.0 + j as f64],
-                        color: j,
-                        arrow: j,
-                    })
-                    .collect(),
-            })
-            .collect(),
-        crosswalks: (0..32)
-            .map(|i| Crosswalk {
-                number: 321 + i,
-                left: line(y(i), 2),
-                right: line(y(i) + 3.0, 2),
-                outline: Some(line(y(i) + 1.0, 4)),
-            })
-            .collect(),
-        rules: (0..128)
-            .map(|i| Rule {
-                number: 353 + i,
-                what: What::Light {
-                    signals: (257..273).collect(),
-                    line: Some(193 + i % 64),
-                },
-                lanes: (129..145).collect(),
-                crosswalks: (321..337).collect(),
-            })
-            .collect(),
-    }
-}
-
 /// Nanoseconds of the Rust's edit, each on a map of its own.
 fn edit(file: &FileMap, call: &edits::Call) -> f64 {
     let map = convert::to_map(file);
@@ -214,7 +148,7 @@ fn edit(file: &FileMap, call: &edits::Call) -> f64 {
 
 fn main() {
     let tiny = sample::crossing(2.0);
-    let mut fuller = full();
+    let mut fuller = full_map();
     // room for the Rust's edits
     fuller.stop_lines.pop();
     fuller.signals.pop();
@@ -222,7 +156,7 @@ fn main() {
     let maps = [
         ("empty", FileMap::default()),
         ("tiny", tiny.clone()),
-        ("full", full()),
+        ("full", full_map()),
     ];
     for (name, map) in &maps {
         assert!(map.point_count() <= 1024);
