@@ -24,15 +24,12 @@ use Rattle.changes.specs.ChangeSet.{ChangeSet, normalize, foldStep, tallyOf}
 use Rattle.changes.specs.ChangeFile.{listsOk}
 use Rattle.changes.specs.Layout.{setWords, changeSetOf, listsOkIn}
 use Rattle.changes.specs.Running.{State, foldOk, foldFits}
-use Rattle.placing.specs.declared.Checked.{Checked}
-use Rattle.placing.specs.declared.Checked.the-variants as k
-use Rattle.placing.specs.Answers.{checked}
 use Rattle.edit.specs.declared.Called.{Called}
 use Rattle.edit.specs.declared.Called.the-variants as c
 use Rattle.edit.specs.Edit.{Draft, Outcome, finish, call}
 use Rattle.edit.specs.Lent.{Lent, stateOf, lentCall, answered, isRefused, CallLeft}
 use Rattle.finishing.proofs.FreshLaws.{FoldBelow, fold-below}
-use Rattle.finishing.specs.Finish.{lentChecks, planned, settled, steps, CallEnds, FoldSettled}
+use Rattle.finishing.specs.Finish.{lentChecks, planned, settled, steps}
 
 -- what a call that is carried out answers
 abbrev pub outcomeOf : State → Draft → Outcome
@@ -159,36 +156,6 @@ module _ (edit : Map → Answer Draft) (l : Lent) where
     answer = rw (a, t, b, s, i) (sym (call-is ∙ rw h));
     kept = λ q. absurd (let y : _≡_ {A = ℕ} 0 1 = cc in omega arith);
   }
-
--- ---- the last step: a table t settled. It has the draft's changes, or at least as many, so that the fold fits alike
-
-module _ (l : Lent) (fine : lentChecks l ≡ done tt) (d : Draft) (t : List ℕ) (late : Bool) (el : late ≡ leb (2 ^ 64) (d .map .next)) (r : Checked) (f′ t′ : List ℕ) (h : FoldSettled (l .fold) t late r f′ t′) where
-  pub ends-refused : foldFits (foldStep (changeSetOf (l .fold)) (normalize (changeSetOf t))) ≡ foldFits (foldStep (changeSetOf (l .fold)) (normalize (d .changes)))
-      → (x : Refusal) → r ≡ k.Refused x → (a : Called) (u : Tally) → (a ≡ c.Refused x) × (u ≡ l .tally)
-      → CallEnds l d a (record { words = l .words; coords = l .coords; fold = f′; tally = u; set = l .set })
-  unfolding settled
-  ends-refused q x e a u g = record {
-    left = λ edit plan.
-        call-refused edit l x (settle-refused edit l fine d plan x (rw (← q, ← el) (sym (h .answer) ∙ ap checked e))) f′ (h .kept x e) a u g;
-  }
-
-  pub ends-done : changeSetOf t ≡ d .changes → r ≡ k.Fine → (ws : List ℕ) (cs : List Float) (tally : Tally) (s : List ℕ) (n : ℕ) → mapOf ws cs ≡ d .map → tally ≡ tallyOf (changeSetOf f′)
-      → changeSetOf s ≡ changeSetOf t′ → n ≡ d .id → CallEnds l d (c.Done n) (record { words = ws; coords = cs; fold = f′; tally = tally; set = s })
-  ends-done et q ws cs tally s n a b e i = record {
-    left = λ edit plan.
-        call-done edit l d (carried-out edit l fine d plan (rw (← et, ← el) (sym (h .answer) ∙ ap checked q))) (record { words = ws; coords = cs; fold = f′; tally = tally; set = s }) n a
-        (h .fold q ∙ ap (λ (x : ChangeSet). foldStep (changeSetOf (l .fold)) (normalize x)) et) b (e ∙ h .set ∙ ap normalize et) i;
-  }
-
--- where nothing refuses, numbers are left
-pub not-late : (f t : List ℕ) (late : Bool) (r : Checked) (f′ t′ : List ℕ) → FoldSettled f t late r f′ t′ → r ≡ k.Fine → late ≡ false
-unfolding settled
-not-late f t late r f′ t′ h q = go (foldFits (foldStep (changeSetOf f) (normalize (changeSetOf t)))) late (sym (h .answer) ∙ ap checked q)
-  where
-    go : (b z : Bool) → (refuseWhen (not b) 10 [] >> refuseWhen z 11 []) ≡ done tt → z ≡ false
-    go true true e = absurd (let y : _≡_ {A = ℕ} 0 1 = cc in omega arith)
-    go true false e = refl
-    go false z e = absurd (let y : _≡_ {A = ℕ} 0 1 = cc in omega arith)
 
 -- ---- a plan
 

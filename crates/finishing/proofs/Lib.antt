@@ -1,6 +1,5 @@
 pub mod LentLaws
 pub mod SettleLaws
-pub mod CopyLaws
 pub mod CeilingLaws
 pub mod StoredLaws
 pub mod FreshLaws

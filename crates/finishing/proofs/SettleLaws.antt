@@ -1,25 +1,24 @@
--- The draft's set normalized and folded: what each answer of `settle` leaves. Assumes nothing.
-use Prim.Native.Nat.{ℕ, zero, suc, _+_, _*_, _≤_, _<_}
-use mathlib.Core.Path.{_≡_, refl, sym, ap, _∙_}
+-- A set normalized and folded: what settling it answers, and what taking it in leaves. Assumes nothing.
+use Prim.Native.Nat.{ℕ, zero, suc, _≤_, _<_}
+use mathlib.Core.Path.{_≡_, refl, ap, _∙_}
 use mathlib.Core.Bool.{Bool, true, false, not}
-use mathlib.Core.List.{List, [], _∷_, _++_}
+use mathlib.Core.List.{List, [], _++_}
 use native.Mathlib.Omega.{arith}
 use lib.Dec.{leb}
 use lib.ListN.{length, getD, length-append}
 use borrow.Author.Tests.{not-true, not-false, le-leb, leb-true}
-use Rattle.refusal.specs.Answer.{Answer, refused, done, refusedAs, refuseWhen, _>>_}
-use Rattle.refusal.specs.declared.Refusal.{Refusal}
+use Rattle.refusal.specs.Answer.{Answer, refused, done, refuseWhen, _>>_}
 use Rattle.refusal.specs.declared.Refusal.the-variants as e
 use Rattle.map.specs.Entity.{EntityRef}
 use Rattle.changes.specs.ChangeFile.{risingRefs}
-use Rattle.changes.specs.ChangeSet.{Warning, ChangeSet, sortRefs, without, normalize, foldStep}
-use Rattle.changes.specs.Layout.{setWords, countIn, listIn, warningsAt, changeSetOf, listsOkIn}
+use Rattle.changes.specs.ChangeSet.{ChangeSet, sortRefs, without, normalize, foldStep}
+use Rattle.changes.specs.Layout.{setWords, countIn, listIn, changeSetOf, listsOkIn}
 use Rattle.changes.specs.Running.{foldFits}
 use Rattle.changes.proofs.Refs.{sort-rising, length-sort, length-without}
 use Rattle.sets.specs.declared.Folded.{Folded}
 use Rattle.sets.specs.declared.Folded.the-variants as s
 use Rattle.sets.specs.Tables.{Roomy, Fits}
-use Rattle.sets.specs.Fold.{foldedAs, isRefused, foldFitted, FoldsTo}
+use Rattle.sets.specs.Fold.{foldedAs, foldFitted, FoldsTo}
 use Rattle.sets.proofs.ListLaws.{without-rises}
 use Rattle.sets.proofs.SettleLaws.{length-in}
 use Rattle.sets.proofs.TableLaws.{fits-ok}
@@ -27,7 +26,7 @@ use Rattle.normal.specs.Normal.{Normalized}
 use Rattle.placing.specs.declared.Checked.{Checked}
 use Rattle.placing.specs.declared.Checked.the-variants as k
 use Rattle.placing.specs.Answers.{checked}
-use Rattle.finishing.specs.Finish.{settled, RoomyAll, FoldSettled, Few, FoldRoom, Settles, TakenIn}
+use Rattle.finishing.specs.Finish.{settled, RoomyAll, Few, FoldRoom, Settles, TakenIn}
 
 -- ---- a normalized list rises and is no longer than it was
 
@@ -50,15 +49,6 @@ normal-deleted : (c : ChangeSet) → (length (normalize c .deleted) ≤ length (
 unfolding normalize
 normal-deleted c =
     (let a = length-without (sortRefs (c .deleted)) (c .created) in let b = length-sort (c .deleted) in omega arith, without-rises (sortRefs (c .deleted)) (c .created) (sort-rising (c .deleted)))
-
-normal-warnings : (c : ChangeSet) → normalize c .warnings ≡ c .warnings
-unfolding normalize
-normal-warnings c = refl
-
-pub length-warnings : (w : List ℕ) (p n : ℕ) → length (warningsAt w p n) ≡ n
-unfolding warningsAt
-length-warnings w p zero = refl
-length-warnings w p (suc n) = ap suc (length-warnings w (p + 3) n)
 
 -- ---- the normalized table
 
@@ -84,71 +74,10 @@ module _ (d d′ : List ℕ) (ok : RoomyAll d) (n : Normalized d d′) where
   pub normal-fits : Fits d′
   normal-fits = record { room = record { size = n .size; few = λ l h. each l h .0 }; rises = λ l h. each l h .1 }
 
-  same-warnings : countIn d′ 3 ≡ countIn d 3
-  unfolding changeSetOf
-  same-warnings =
-      sym (length-warnings d′ 3076 (countIn d′ 3)) ∙ ap length (ap (λ (c : ChangeSet). c .warnings) (n .set) ∙ normal-warnings (changeSetOf d)) ∙ length-warnings d 3076 (countIn d 3)
-
-  pub normal-roomy : RoomyAll d′
-  normal-roomy = record { lists = normal-fits .room; warnings = let a = same-warnings in let b = ok .warnings in omega arith }
-
 -- ---- each answer
-
-no-fine : {A : Type 0} {x : Refusal} → k.Refused x ≡ k.Fine → A
-no-fine q = let z : _≡_ {A = ℕ} 0 1 = cc in absurd (omega arith)
-
-no-refusal : {A : Type 0} {x : Refusal} → k.Fine ≡ k.Refused x → A
-no-refusal q = let z : _≡_ {A = ℕ} 0 1 = cc in absurd (omega arith)
 
 pub settle-asks : (f d d′ : List ℕ) → listsOkIn f ≡ true → RoomyAll d → Normalized d d′ → Fits f × Fits d′
 settle-asks f d d′ okf ok n = (fits-ok f okf, normal-fits d d′ ok n)
-
-module _ (f d d′ : List ℕ) (ok : RoomyAll d) (n : Normalized d d′) (late : Bool) where
-  turned-down : (x : Refusal) (f′ : List ℕ) → f′ ≡ f → refusedAs x ≡ settled (changeSetOf f) (normalize (changeSetOf d)) late → FoldSettled f d late (k.Refused x) f′ d′
-  turned-down x f′ q e = record { answer = e; set = n .set; room = normal-roomy d d′ ok n; fold = no-fine; kept = λ _ _. q }
-
-  module _ (t : late ≡ true) (b : Bool) (h : b ≡ foldFits (foldStep (changeSetOf f) (changeSetOf d′))) where
-    pub late-full : not b ≡ true → FoldSettled f d late (k.Refused e.Full) f d′
-    unfolding settled
-    late-full q = turned-down e.Full f refl (rw (← n .set, ← h, not-true b q))
-
-    pub late-spent : not b ≡ false → FoldSettled f d late (k.Refused e.NumbersSpent) f d′
-    unfolding settled
-    late-spent q = turned-down e.NumbersSpent f refl (rw (← n .set, ← h, not-false b q, t))
-
-  module _ (t : late ≡ false) (q : Folded) (f′ : List ℕ) (h : FoldsTo f d′ q f′) where
-    pub fold-refused : (x : Refusal) → q ≡ s.Refused x → FoldSettled f d late (k.Refused x) f′ d′
-    unfolding settled foldFitted
-    fold-refused x r =
-        turned-down x f′ (h .unchanged (ap isRefused r)) (rw (← n .set, t) (go (foldFits (foldStep (changeSetOf f) (changeSetOf d′))) (foldStep (changeSetOf f) (changeSetOf d′)) (sym (ap (λ (y : Folded). foldedAs y (changeSetOf f′)) r) ∙ h .answer)))
-      where
-        go : (b : Bool) (g : ChangeSet) → refusedAs x ≡ (refuseWhen (not b) 10 [] >> done g) → refusedAs x ≡ (refuseWhen (not b) 10 [] >> refuseWhen false 11 [])
-        go true g z = absurd (let y : _≡_ {A = ℕ} 0 1 = cc in omega arith)
-        go false g z = cc
-
-    pub fold-done : q ≡ s.Done → FoldSettled f d late k.Fine f′ d′
-    unfolding settled foldFitted
-    fold-done r =
-        let z : done (changeSetOf f′) ≡ (refuseWhen (not (foldFits (foldStep (changeSetOf f) (changeSetOf d′)))) 10 [] >> done (foldStep (changeSetOf f) (changeSetOf d′))) = sym (ap (λ (y : Folded). foldedAs y (changeSetOf f′)) r) ∙ h .answer in
-        record {
-          answer = rw (← n .set, t) (goes (foldFits (foldStep (changeSetOf f) (changeSetOf d′))) (foldStep (changeSetOf f) (changeSetOf d′)) (changeSetOf f′) z);
-          set = n .set;
-          room = normal-roomy d d′ ok n;
-          fold = λ _. rw (← n .set) (folds (foldFits (foldStep (changeSetOf f) (changeSetOf d′))) (foldStep (changeSetOf f) (changeSetOf d′)) (changeSetOf f′) z);
-          kept = λ _ y. no-refusal y;
-        }
-      where
-        goes : (b : Bool) (g a : ChangeSet) → done a ≡ (refuseWhen (not b) 10 [] >> done g) → done tt ≡ (refuseWhen (not b) 10 [] >> refuseWhen false 11 [])
-        goes true g a z = refl
-        goes false g a z = absurd (let y : _≡_ {A = ℕ} 0 1 = cc in omega arith)
-
-        folds : (b : Bool) (g a : ChangeSet) → done a ≡ (refuseWhen (not b) 10 [] >> done g) → a ≡ g
-        folds true g a z = cc
-        folds false g a z = absurd (let y : _≡_ {A = ℕ} 0 1 = cc in omega arith)
-
-pub ruleset settling = (late-full, late-spent, fold-refused, fold-done)
-
--- ---- without a store
 
 few-fits : (f c : ChangeSet) → length (f .created) ≤ 256 → length (f .modified) ≤ 256 → length (f .deleted) ≤ 256 → Few c → foldFits (foldStep f (normalize c)) ≡ true
 unfolding foldFits foldStep
@@ -197,4 +126,4 @@ taken-in f d d′ n fits q f′ h = record { set = n .set; fold = go q (h .answe
     go s.Done z = cc
     go (s.Refused x) z = absurd (let y : _≡_ {A = ℕ} 0 1 = cc in omega arith)
 
-pub ruleset settling-unstored = (no-room, has-room, settles-full, settles-late, settles-fine, taken-in)
+pub ruleset settling = (no-room, has-room, settles-full, settles-late, settles-fine, taken-in)

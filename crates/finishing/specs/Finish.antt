@@ -1,12 +1,11 @@
 -- A call, step by step: what is tested of what is lent, what is planned, what the fold settles; and what the code of each step leaves.
-use Prim.Native.Nat.{ℕ, _^_, _≤_, _<_}
+use Prim.Native.Nat.{ℕ, _^_, _≤_}
 use mathlib.Core.Path.{_≡_}
 use mathlib.Core.Bool.{Bool, true, not, _&&_}
 use mathlib.Core.List.{List, []}
 use lib.Dec.{eqb, leb}
 use lib.ListN.{length}
 use Rattle.refusal.specs.Answer.{Answer, refused, done, _>>=_, _>>_, refuseWhen}
-use Rattle.refusal.specs.declared.Refusal.{Refusal}
 use Rattle.rows.specs.Lists.{every}
 use Rattle.geometry.specs.Point.{pointOnMap}
 use Rattle.map.specs.Record.{Map}
@@ -14,11 +13,10 @@ use Rattle.map.specs.Ceilings.{withinCeilings}
 use Rattle.map.specs.Tables.{mapOf, isMapTables}
 use Rattle.changes.specs.ChangeSet.{ChangeSet, normalize, foldStep}
 use Rattle.changes.specs.ChangeFile.{listsOk}
-use Rattle.changes.specs.Layout.{setWords, countIn, listIn, warningsAt, changeSetOf}
+use Rattle.changes.specs.Layout.{setWords, countIn, changeSetOf}
 use Rattle.changes.specs.Running.{foldOk, foldFits}
 use Rattle.sets.specs.Tables.{Roomy}
 use Rattle.placing.specs.declared.Checked.{Checked}
-use Rattle.placing.specs.declared.Checked.the-variants.{Fine, Refused}
 use Rattle.placing.specs.Answers.{checked}
 use Rattle.edit.specs.declared.Called.{Called}
 use Rattle.edit.specs.Edit.{Draft, call}
@@ -64,21 +62,6 @@ pub record CallEnds (old : Lent) (d : Draft) (r : Called) (new : Lent) : Type 0 
 pub record RoomyAll (w : List ℕ) : Type 0 where
   pub lists : Roomy w
   pub warnings : countIn w 3 ≤ 160
-
--- d's warnings in w, whose lists stay
-pub record WarningsCopied (w d w′ : List ℕ) : Type 0 where
-  pub lists : (l : ℕ) → l < 3 → countIn w l ≤ 512 → listIn w′ l ≡ listIn w l
-  pub warnings : warningsAt w′ 3076 (countIn w′ 3) ≡ warningsAt d 3076 (countIn d 3)
-
--- the draft d normalized, and taken into the fold f where nothing refuses
-pub record FoldSettled (f d : List ℕ) (late : Bool) (r : Checked) (f′ d′ : List ℕ) : Type 0 where
-  pub answer : checked r ≡ settled (changeSetOf f) (normalize (changeSetOf d)) late
-  pub set : changeSetOf d′ ≡ normalize (changeSetOf d)
-  pub room : RoomyAll d′
-  pub fold : r ≡ Fine → changeSetOf f′ ≡ foldStep (changeSetOf f) (normalize (changeSetOf d))
-  pub kept : (e : Refusal) → r ≡ Refused e → f′ ≡ f
-
--- ---- settled without a store
 
 -- a set with few entries in each list
 pub record Few (c : ChangeSet) : Type 0 where

@@ -36,8 +36,9 @@ use Rattle.edit.specs.Edit.{Draft, call}
 use Rattle.edit.specs.Lent.{Lent, CallLeft}
 use Rattle.edit.specs.Light.{NewTrafficSignal, newSignal, lightEdit, addTrafficSignal}
 use Rattle.edit.specs.Request.{newTrafficSignal}
-use Rattle.finishing.specs.Finish.{lentChecks, FoldSettled, CallEnds}
-use Rattle.finishing.proofs.CallLaws.{LentFine, lent-fine, lent-refused, plan-refused, call-refused, ends-refused, ends-done, not-late}
+use Rattle.finishing.specs.Finish.{lentChecks, CallEnds, TakenIn}
+use Rattle.finishing.proofs.CallLaws.{LentFine, lent-fine, lent-refused, plan-refused, call-refused}
+use Rattle.finishing.proofs.EndLaws.{ends-refused, not-late, takes, ends-done}
 use Rattle.light_draft.specs.declared.Light.{Light}
 use Rattle.light_draft.specs.Drafting.{lineFor, oneIf, ruleNumber, joins, lateFor, numbersFor, lightSet, SetDrafted, Joinable}
 use Rattle.light_draft.proofs.DraftLaws.{rules-rise, changes-are}
@@ -46,7 +47,7 @@ use Rattle.light_store.proofs.StoreLaws.{rules-are}
 use Rattle.light_room.specs.declared.SignalPlan.{SignalPlan}
 use Rattle.light_room.specs.Room.{countsFit, roomFor, signalDraft, SignalReady, SignalPlanned}
 use Rattle.light_room.proofs.PlanLaws.{its-signals, at-index, joined-all}
-use Rattle.signals.specs.Signal.{AsksToStore, StoredAs}
+use Rattle.signals.specs.Signal.{LightSettles, AsksToStore, StoredAs}
 use Rattle.signals.proofs.SignalLaws.{map-is, next-is, id-is, fits-alike, group-below}
 
 -- ---- what a plan that is ready gives
@@ -183,34 +184,34 @@ module _ (ws : List ℕ) (cs : List Float) (f : List ℕ) (t : Tally) (s : List 
       unfolding newTrafficSignal
       set-asks = (readable ws cs (known .tables) .words, ready .lanes)
 
-      module _ (t0 : List ℕ) (ht : SetDrafted ws lanes (p .light) (p .clamped) (p .synthesized) t0) (r : Checked) (f′ t1 : List ℕ) (h : FoldSettled f t0 (p .light .late) r f′ t1) where
+      module _ (r : Checked) (h : LightSettles ws f lanes (p .light) (p .clamped) (p .synthesized) r) where
+        abbrev tried : ChangeSet
+        tried = lightSet (p .light) (p .clamped) (p .synthesized) lanes (mapOf ws cs .rules)
+
         late-next : p .light .late ≡ leb (2 ^ 64) (draft .map .next)
         unfolding mapOf
         late-next = late-is ws cs q a p ready ∙ ap (leb (2 ^ 64)) (sym (next-is a (mapOf ws cs) (known .sound .map) (p .plan) (p .line) (p .housing) (p .clamped) (p .synthesized) (ready .group)))
 
-        set-is : (late : Bool) → p .light ≡ numbersFor late (nextOf ws) (p .plan) (a .group) → changeSetOf t0 ≡ lightSet (numbersFor late (mapOf ws cs .next) (p .plan) (a .group)) (p .clamped) (p .synthesized) (a .lanes) (mapOf ws cs .rules)
+        tried-is : (late : Bool) → p .light ≡ numbersFor late (nextOf ws) (p .plan) (a .group) → tried ≡ lightSet (numbersFor late (mapOf ws cs .next) (p .plan) (a .group)) (p .clamped) (p .synthesized) (a .lanes) (mapOf ws cs .rules)
         unfolding mapOf newTrafficSignal
-        set-is late e = ht .set cs ∙ ap (λ (l : Light). lightSet l (p .clamped) (p .synthesized) lanes (mapOf ws cs .rules)) e
+        tried-is late e = ap (λ (l : Light). lightSet l (p .clamped) (p .synthesized) lanes (mapOf ws cs .rules)) e
 
         draft-set-is : draft .changes ≡ lightSet (numbersFor false (mapOf ws cs .next) (p .plan) (a .group)) (p .clamped) (p .synthesized) (a .lanes) (mapOf ws cs .rules)
         draft-set-is = changes-are a (mapOf ws cs) (known .sound .map) (p .plan) (p .line) (p .housing) (p .clamped) (p .synthesized) (ready .group)
 
-        alike : foldFits (foldStep (changeSetOf f) (normalize (changeSetOf t0))) ≡ foldFits (foldStep (changeSetOf f) (normalize (draft .changes)))
+        alike : foldFits (foldStep (changeSetOf f) (normalize tried)) ≡ foldFits (foldStep (changeSetOf f) (normalize (draft .changes)))
         alike =
-            ap (λ (x : ChangeSet). foldFits (foldStep (changeSetOf f) (normalize x))) (set-is _ (ready .numbers .answer))
+            ap (λ (x : ChangeSet). foldFits (foldStep (changeSetOf f) (normalize x))) (tried-is _ (ready .numbers .answer))
             ∙ fits-alike (mapOf ws cs) (known .sound .map) (changeSetOf f) (known .below) (p .plan) (p .clamped) (p .synthesized) (a .lanes) (a .group)
             (λ g e. group-below (mapOf ws cs) (known .sound .map) (changeSetOf f) (known .below) (p .plan) (p .clamped) (p .synthesized) (a .lanes) g (ready .group g e)) (lateFor (nextOf ws) (p .plan) (a .group))
             ∙ ap (λ (x : ChangeSet). foldFits (foldStep (changeSetOf f) (normalize x))) (sym draft-set-is)
 
-        pub out-refused : (x : Refusal) → r ≡ k.Refused x → (b : Called) (u : Tally) → (b ≡ c.Refused x) × (u ≡ t) → CallEnds lent draft b (record { words = ws; coords = cs; fold = f′; tally = u; set = s })
-        out-refused x e b u g = ends-refused lent fine draft t0 (p .light .late) late-next r f′ t1 h alike x e b u g
+        pub out-refused : (x : Refusal) → r ≡ k.Refused x → (b : Called) (u : Tally) → (b ≡ c.Refused x) × (u ≡ t) → CallEnds lent draft b (record { words = ws; coords = cs; fold = f; tally = u; set = s })
+        out-refused = ends-refused lent fine draft tried (p .light .late) late-next alike r (h .settles cs)
 
         module _ (e : r ≡ k.Fine) where
           in-time : p .light .late ≡ false
-          in-time = not-late f t0 (p .light .late) r f′ t1 h e
-
-          same-set : changeSetOf t0 ≡ draft .changes
-          same-set = set-is false (light-is ws cs q a p ready in-time) ∙ sym draft-set-is
+          in-time = not-late lent fine draft tried (p .light .late) late-next alike r (h .settles cs) e
 
           pub store-needs : AsksToStore ws cs lanes q p
           unfolding newTrafficSignal
@@ -229,9 +230,16 @@ module _ (ws : List ℕ) (cs : List Float) (f : List ℕ) (t : Tally) (s : List 
           unfolding mapOf
           id-stored = ap (λ (l : Light). l .signal) (light-is ws cs q a p ready in-time) ∙ sym (id-is a (mapOf ws cs) (known .sound .map) (p .plan) (p .line) (p .housing) (p .clamped) (p .synthesized) (ready .group))
 
-          pub out-done : (s′ ws′ : List ℕ) (cs′ : List Float) (u : Tally) → changeSetOf s′ ≡ changeSetOf t1 → StoredAs ws cs lanes q p ws′ cs′ → u ≡ tallyOf (changeSetOf f′)
-              → CallEnds lent draft (c.Done (p .light .signal)) (record { words = ws′; coords = cs′; fold = f′; tally = u; set = s′ })
-          out-done s′ ws′ cs′ u es st eu = ends-done lent fine draft t0 (p .light .late) late-next r f′ t1 h same-set e ws′ cs′ u s′ (p .light .signal) (map-stored ws′ cs′ st) eu es id-stored
+          module _ (t0 : List ℕ) (ht : SetDrafted ws lanes (p .light) (p .clamped) (p .synthesized) t0) where
+            same-set : changeSetOf t0 ≡ draft .changes
+            same-set = ht .set cs ∙ tried-is false (light-is ws cs q a p ready in-time) ∙ sym draft-set-is
+
+            pub taken : foldFits (foldStep (changeSetOf f) (normalize (changeSetOf t0))) ≡ true
+            taken = takes lent fine draft tried (p .light .late) late-next alike r (h .settles cs) e t0 same-set
+
+            pub out-done : (f′ t1 : List ℕ) → TakenIn f t0 f′ t1 → (ws′ : List ℕ) (cs′ : List Float) (u : Tally) → StoredAs ws cs lanes q p ws′ cs′ → u ≡ tallyOf (changeSetOf f′)
+                → CallEnds lent draft (c.Done (p .light .signal)) (record { words = ws′; coords = cs′; fold = f′; tally = u; set = t1 })
+            out-done f′ t1 w ws′ cs′ u st eu = ends-done lent fine draft tried (p .light .late) late-next alike r (h .settles cs) e t0 same-set f′ t1 w ws′ cs′ u (p .light .signal) (map-stored ws′ cs′ st) eu id-stored
 
   -- ---- the whole call
 

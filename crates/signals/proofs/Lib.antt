@@ -1,2 +1,3 @@
 pub mod SignalLaws
 pub mod CarryLaws
+pub mod FoldLaws

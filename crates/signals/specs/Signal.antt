@@ -1,7 +1,7 @@
--- What storing a planned light asks for and leaves.
+-- What settling a planned light answers; what storing it asks for and leaves.
 use Prim.Native.Nat.{_-_, ℕ, _+_, _^_, _≤_, _<_, max}
 use mathlib.Core.Path.{_≡_}
-use mathlib.Core.Bool.{true, false, not}
+use mathlib.Core.Bool.{Bool, true, false, not}
 use mathlib.Core.List.{List}
 use lib.Ieee.{Float}
 use lib.ListN.{length}
@@ -12,13 +12,20 @@ use Rattle.map.specs.Record.{Rule}
 use Rattle.map.specs.Tables.{mapOf}
 use Rattle.place.specs.Readable.{Readable}
 use Rattle.place.specs.Values.{Roomy}
+use Rattle.placing.specs.declared.Checked.{Checked}
 use Rattle.edit.specs.declared.SignalRequest.{SignalRequest}
 use Rattle.edit.specs.Light.{newSignal}
 use Rattle.edit.specs.Request.{newTrafficSignal}
 use Rattle.signal_row.specs.Row.{BulbsRead}
-use Rattle.light_draft.specs.Drafting.{oneIf, lineIn, liftedFirst}
+use Rattle.finishing.specs.Finish.{Settles}
+use Rattle.light_draft.specs.declared.Light.{Light}
+use Rattle.light_draft.specs.Drafting.{oneIf, lineIn, lightSet, liftedFirst}
 use Rattle.light_store.specs.Storing.{GroupAsks, groupIn, lightMap}
 use Rattle.light_room.specs.declared.SignalPlan.{SignalPlan}
+
+-- r answers as settling the light's set with the fold f does
+pub record LightSettles (ws f lanes : List ℕ) (l : Light) (clamped made : Bool) (r : Checked) : Type 0 where
+  pub settles : (cs : List Float) → Settles f (lightSet l clamped made lanes (mapOf ws cs .rules)) (l .late) r
 
 pub record AsksToStore (ws : List ℕ) (cs : List Float) (lanes : List ℕ) (q : SignalRequest) (p : SignalPlan) : Type 0 where
   pub readable : Readable ws cs

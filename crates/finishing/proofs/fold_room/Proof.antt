@@ -6,25 +6,25 @@ use Rattle.finishing.proofs.fold_room.Statement.{statement}
 use Rattle.finishing.proofs.fold_room.Tie as tie
 
 returns : tie.Need-returns
-returns c = search (needs, L.settling-unstored)
+returns c = search (needs, L.settling)
 
 shared-slice-read-if2 : tie.Need-shared-slice-read-if2
 shared-slice-read-if2 c = omega (arith, L.fold-long _ (c .before .before .pre))
 
 returns-2 : tie.Need-returns-2
-returns-2 c = search (needs, L.settling-unstored)
+returns-2 c = search (needs, L.settling)
 
 shared-slice-read-if3 : tie.Need-shared-slice-read-if3
 shared-slice-read-if3 c = omega (arith, L.fold-long _ (c .before .before .before .before .pre))
 
 returns-3 : tie.Need-returns-3
-returns-3 c = search (needs, L.settling-unstored)
+returns-3 c = search (needs, L.settling)
 
 shared-slice-read-result : tie.Need-shared-slice-read-result
 shared-slice-read-result c = omega (arith, L.fold-long _ (c .before .before .before .before .before .before .pre))
 
 returns-4 : tie.Need-returns-4
-returns-4 c = search (needs, L.settling-unstored)
+returns-4 c = search (needs, L.settling)
 
 pub fold-room-spec : {M : Type 1} → statement M
 fold-room-spec =

@@ -14,19 +14,19 @@ same-length : tie.Need-same-length
 same-length c = search needs
 
 returns : tie.Need-returns
-returns c = search (needs, L.settling-unstored)
+returns c = search (needs, L.settling)
 
 same-length-2 : tie.Need-same-length-2
 same-length-2 c = search needs
 
 returns-2 : tie.Need-returns-2
-returns-2 c = search (needs, L.settling-unstored)
+returns-2 c = search (needs, L.settling)
 
 same-length-3 : tie.Need-same-length-3
 same-length-3 c = search needs
 
 returns-3 : tie.Need-returns-3
-returns-3 c = search (needs, L.settling-unstored)
+returns-3 c = search (needs, L.settling)
 
 pub settles-spec : {M : Type 1} → statement M
 settles-spec =
