@@ -1,10 +1,8 @@
 // Replays the oracle's stored calls: each request is carried out by the proved code on lent memory, and its answer, change set, map and
 // running fold are compared with what the Rust gave, which stands in the next line. A refusal must leave every word as it was.
 // Writes how many calls were carried out, how often each refusal came with each detail, and how many answers were met.
-use call_list::Carried;
 use call_list::Reply;
 use changes::Tally;
-use files::Opened;
 use libc::STDOUT_FILENO;
 use request_calls::line_over;
 use sample_text::expect_number;
