@@ -1,6 +1,6 @@
 // What a person reads: two junctions drawn in both orders, and document 01's worked crossings, carried out by the proved code. For each
-// call: what was asked, the answer, the change set; then the running fold, the tally and the map. Where document 01 has the answer, whether
-// it is as written there.
+// call: what was asked, the answer, the change set; then the running fold, the tally and the map. Where an answer is expected, whether
+// it is that: P1 to P8 as document 01 has them; the stations and the full map, of which it says only how they end, worked out by hand.
 use call_list::Reply;
 use changes::Tally;
 use libc::STDOUT_FILENO;
@@ -39,7 +39,7 @@ fn as_written(text: &[u8], answer: usize, r: Reply, set: &[u64], buffer: &mut [u
     line_over(text, request_calls::expect_set(text, a, set, buffer))
 }
 
-// After an answer of document 01's, which begins with its name there.
+// After an answer that is expected, which begins with its name.
 fn say_written(text: &[u8], name: usize, yes: bool) {
     let w = name_at(text, name);
     let e = w.next;
@@ -52,9 +52,9 @@ fn say_written(text: &[u8], name: usize, yes: bool) {
         }
     }
     if yes {
-        io::write_all(STDOUT_FILENO, b"as written\n");
+        io::write_all(STDOUT_FILENO, b"as expected\n");
     } else {
-        io::write_all(STDOUT_FILENO, b"NOT AS WRITTEN\n");
+        io::write_all(STDOUT_FILENO, b"NOT AS EXPECTED\n");
     }
 }
 
