@@ -1,13 +1,16 @@
 -- A set normalized and folded: what settling it answers, and what taking it in leaves. Assumes nothing.
-use Prim.Native.Nat.{ℕ, zero, suc, _≤_, _<_}
-use mathlib.Core.Path.{_≡_, refl, ap, _∙_}
+use Prim.Native.Nat.{ℕ, zero, suc, _+_, _≤_, _<_}
+use mathlib.Core.Path.{_≡_, refl, sym, ap, _∙_}
 use mathlib.Core.Bool.{Bool, true, false, not}
-use mathlib.Core.List.{List, [], _++_}
+use mathlib.Core.List.{List, [], _++_, append-nil}
 use native.Mathlib.Omega.{arith}
 use lib.Dec.{leb}
-use lib.ListN.{length, getD, length-append}
-use borrow.Author.Tests.{not-true, not-false, le-leb, leb-true}
-use Rattle.refusal.specs.Answer.{Answer, refused, done, refuseWhen, _>>_}
+use lib.ListN.{length, getD, drop, length-append}
+use lib.Seq.{take-length, drop-length}
+use borrow.Author.Tests.{le-leb, leb-true}
+use Rattle.rows.specs.Rows.{pasted}
+use Rattle.refusal.specs.Answer.{Answer, refused, done, refusedAs, refuseWhen, _>>_}
+use Rattle.refusal.specs.declared.Refusal.{Refusal}
 use Rattle.refusal.specs.declared.Refusal.the-variants as e
 use Rattle.map.specs.Entity.{EntityRef}
 use Rattle.changes.specs.ChangeFile.{risingRefs}
@@ -23,10 +26,11 @@ use Rattle.sets.proofs.ListLaws.{without-rises}
 use Rattle.sets.proofs.SettleLaws.{length-in}
 use Rattle.sets.proofs.TableLaws.{fits-ok}
 use Rattle.normal.specs.Normal.{Normalized}
+use Rattle.normal.proofs.SortLaws.{normal-already}
 use Rattle.placing.specs.declared.Checked.{Checked}
 use Rattle.placing.specs.declared.Checked.the-variants as k
 use Rattle.placing.specs.Answers.{checked}
-use Rattle.finishing.specs.Finish.{settled, RoomyAll, Few, FoldRoom, Settles, TakenIn}
+use Rattle.finishing.specs.Finish.{settled, RoomyAll, Few, FoldRoom, Tried, Settles, TakenIn}
 
 -- ---- a normalized list rises and is no longer than it was
 
@@ -105,18 +109,49 @@ has-room f late t a b = record {
   );
 }
 
-module _ (f d d′ : List ℕ) (n : Normalized d d′) (late b : Bool) (h : b ≡ foldFits (foldStep (changeSetOf f) (changeSetOf d′))) where
-  pub settles-full : not b ≡ true → Settles f (changeSetOf d) late (k.Refused e.Full)
-  unfolding settled
-  settles-full q = record { answer = rw (← n .set, ← h, not-true b q) }
+pub copied : (d f d′ : List ℕ) → length d ≡ length f → d′ ≡ pasted d 0 f (length f) → d′ ≡ f
+unfolding pasted
+copied d f d′ e q = q ∙ ap (λ (x : List ℕ). x ++ drop (0 + length f) d) (take-length f) ∙ ap (λ (x : List ℕ). f ++ x) rest ∙ append-nil f
+  where
+    rest : drop (0 + length f) d ≡ []
+    rest = ap (λ (n : ℕ). drop n d) (let z : 0 + length f ≡ length d = omega arith in z) ∙ drop-length d
 
-  pub settles-late : not b ≡ false → late ≡ true → Settles f (changeSetOf d) late (k.Refused e.NumbersSpent)
-  unfolding settled
-  settles-late q t = record { answer = rw (← n .set, ← h, not-false b q, t) }
+module _ (f d : List ℕ) (late : Bool) (g : List ℕ) (eg : g ≡ f) (q : Folded) (g′ d′ : List ℕ) (h : Tried g d q g′ d′) where
+  abbrev fits : Bool
+  fits = foldFits (foldStep (changeSetOf f) (normalize (changeSetOf d)))
 
-  pub settles-fine : not b ≡ false → late ≡ false → Settles f (changeSetOf d) late k.Fine
+  answer-is : foldedAs q (changeSetOf g′) ≡ (refuseWhen (not fits) 10 [] >> done (foldStep (changeSetOf f) (normalize (changeSetOf d))))
+  unfolding foldFitted
+  answer-is = h .fold .answer ∙ rw (eg, h .set .set)
+
+  pub settles-refused : (x : Refusal) → q ≡ s.Refused x → Settles f (changeSetOf d) late (k.Refused x)
   unfolding settled
-  settles-fine q t = record { answer = rw (← n .set, ← h, not-false b q, t) }
+  settles-refused x e = record { answer = go fits (foldStep (changeSetOf f) (normalize (changeSetOf d))) (sym (ap (λ (y : Folded). foldedAs y (changeSetOf g′)) e) ∙ answer-is) }
+    where
+      go : (b : Bool) (w : ChangeSet) → refusedAs x ≡ (refuseWhen (not b) 10 [] >> done w) → refusedAs x ≡ (refuseWhen (not b) 10 [] >> refuseWhen late 11 [])
+      go true w z = absurd (let y : _≡_ {A = ℕ} 0 1 = cc in omega arith)
+      go false w z = cc
+
+  does-fit : q ≡ s.Done → fits ≡ true
+  does-fit e = go fits (foldStep (changeSetOf f) (normalize (changeSetOf d))) (sym (ap (λ (y : Folded). foldedAs y (changeSetOf g′)) e) ∙ answer-is)
+    where
+      go : (b : Bool) (w : ChangeSet) → done (changeSetOf g′) ≡ (refuseWhen (not b) 10 [] >> done w) → b ≡ true
+      go true w z = refl
+      go false w z = absurd (let y : _≡_ {A = ℕ} 0 1 = cc in omega arith)
+
+  pub settles-late : q ≡ s.Done → late ≡ true → Settles f (changeSetOf d) late (k.Refused e.NumbersSpent)
+  unfolding settled
+  settles-late e t = record { answer = rw (does-fit e, t) }
+
+  pub settles-fine : q ≡ s.Done → late ≡ false → Settles f (changeSetOf d) late k.Fine
+  unfolding settled
+  settles-fine e t = record { answer = rw (does-fit e, t) }
+
+pub already : (d : List ℕ) (p : Bool) → p ≡ listsOkIn d → p ≡ true → Normalized d d
+already d p e t = normal-already d p e (rw t)
+
+pub few-asks : (f d : List ℕ) → listsOkIn f ≡ true → (p : Bool) → p ≡ listsOkIn d → p ≡ true → Fits f × Fits d
+few-asks f d okf p e t = (fits-ok f okf, fits-ok d (sym e ∙ t))
 
 pub taken-in : (f d d′ : List ℕ) → Normalized d d′ → foldFits (foldStep (changeSetOf f) (normalize (changeSetOf d))) ≡ true → (q : Folded) (f′ : List ℕ) → FoldsTo f d′ q f′ → TakenIn f d f′ d′
 unfolding foldFitted
@@ -126,4 +161,4 @@ taken-in f d d′ n fits q f′ h = record { set = n .set; fold = go q (h .answe
     go s.Done z = cc
     go (s.Refused x) z = absurd (let y : _≡_ {A = ℕ} 0 1 = cc in omega arith)
 
-pub ruleset settling = (no-room, has-room, settles-full, settles-late, settles-fine, taken-in)
+pub ruleset settling = (no-room, has-room)

@@ -15,7 +15,10 @@ use Rattle.changes.specs.ChangeSet.{ChangeSet, normalize, foldStep}
 use Rattle.changes.specs.ChangeFile.{listsOk}
 use Rattle.changes.specs.Layout.{setWords, countIn, changeSetOf}
 use Rattle.changes.specs.Running.{foldOk, foldFits}
+use Rattle.sets.specs.declared.Folded.{Folded}
 use Rattle.sets.specs.Tables.{Roomy}
+use Rattle.sets.specs.Fold.{FoldsTo}
+use Rattle.normal.specs.Normal.{Normalized}
 use Rattle.placing.specs.declared.Checked.{Checked}
 use Rattle.placing.specs.Answers.{checked}
 use Rattle.edit.specs.declared.Called.{Called}
@@ -72,6 +75,11 @@ pub record Few (c : ChangeSet) : Type 0 where
 -- where r is yes, no set with few entries is refused
 pub record FoldRoom (f : List ℕ) (late r : Bool) : Type 0 where
   pub fine : r ≡ true → (c : ChangeSet) → Few c → settled (changeSetOf f) (normalize c) late ≡ done tt
+
+-- the table d normalized and taken into the fold f, or f as it was
+pub record Tried (f d : List ℕ) (q : Folded) (f′ d′ : List ℕ) : Type 0 where
+  pub set : Normalized d d′
+  pub fold : FoldsTo f d′ q f′
 
 -- r answers as settling c with the fold f does
 pub record Settles (f : List ℕ) (c : ChangeSet) (late : Bool) (r : Checked) : Type 0 where

@@ -10,13 +10,14 @@ ghost use Rattle.changes.specs.ChangeSet.{normalize, foldStep};
 ghost use Rattle.changes.specs.Layout.{changeSetOf, listsOkIn};
 ghost use Rattle.changes.specs.Running.{foldFits};
 ghost use Rattle.placing.specs.Answers.{checked};
-ghost use Rattle.finishing.specs.Finish.{lentChecks, RoomyAll, FoldRoom, Settles, TakenIn};
+ghost use Rattle.finishing.specs.Finish.{lentChecks, RoomyAll, FoldRoom, Tried, Settles, TakenIn};
 use changes::Tally;
 use changes::layout;
 use edit::Answered;
 use edit::Called;
 use placing::Checked;
 use refusal::Refusal;
+use sets::Folded;
 
 // So many entries are few: twice as many have room in a list.
 const FEW: u64 = 256;
@@ -72,14 +73,25 @@ pub fn fold_room(fold: &[u64], late: bool) -> bool
     fold[2] <= FEW
 }
 
-// What settling the draft with the fold answers: 10 where a list of the fold would be too long, then 11. The fold is only read; the draft is normalized.
+// The set is normalized and taken into the fold, or the fold is as it was. Few calls come here, so the room to work in is no burden to the others.
+fn take_any(fold: &mut [u64], set: &mut [u64]) -> Folded
+    requires { ⌜ (listsOkIn (now fold) ≡ true) × RoomyAll (now set) ⌝ }
+    ensures { λ r. ⌜ Tried (now (fold .entry)) (now (set .entry)) r (now (fold .exit)) (now (set .exit)) ⌝ }
+{
+    normal::normalize(set);
+    sets::fold_fitted(fold, set)
+}
+
+// What settling the draft with the fold answers, tried on a copy: 10 where a list of the fold would be too long, then 11.
 pub fn settles(fold: &[u64], draft: &mut [u64], late: bool) -> Checked
     requires { ⌜ (listsOkIn (now fold) ≡ true) × RoomyAll (now draft) ⌝ }
     ensures { λ r. ⌜ Settles (now (fold .entry)) (changeSetOf (now (draft .entry))) late r ⌝ }
 {
-    normal::normalize(draft);
-    if !sets::fold_fits(fold, draft) {
-        return Checked::Refused(Refusal::Full);
+    let mut copy = [0u64; 3556];
+    rows::put(&mut copy, 0, fold);
+    let tried = take_any(&mut copy, draft);
+    if let Folded::Refused(r) = tried {
+        return Checked::Refused(r);
     }
     if late {
         return Checked::Refused(Refusal::NumbersSpent);
@@ -87,11 +99,16 @@ pub fn settles(fold: &[u64], draft: &mut [u64], late: bool) -> Checked
     Checked::Fine
 }
 
-// The set is normalized and taken into the fold, which has room for it.
+// The set is normalized and taken into the fold, which has room for it. Most sets are normal as they are, and few entries fold in little room.
 pub fn take_in(fold: &mut [u64], set: &mut [u64])
     requires { ⌜ (listsOkIn (now fold) ≡ true) × RoomyAll (now set) × (foldFits (foldStep (changeSetOf (now fold)) (normalize (changeSetOf (now set)))) ≡ true) ⌝ }
     ensures { λ _. ⌜ TakenIn (now (fold .entry)) (now (set .entry)) (now (fold .exit)) (now (set .exit)) ⌝ }
 {
-    normal::normalize(set);
-    sets::fold_fitted(fold, set);
+    if sets::lists_ok(set) {
+        if sets::crowd(fold, set) <= 64 {
+            sets::fold_few(fold, set);
+            return;
+        }
+    }
+    take_any(fold, set);
 }
