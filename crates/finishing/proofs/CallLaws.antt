@@ -183,10 +183,6 @@ module _ (edit : Map → Answer Draft) (m : Map) where
     unfolding planned
     plan-full p w = rw (h, p, w)
 
-    pub plan-done : every pointOnMap (d .stored) ≡ true → withinCeilings (d .map) ≡ true → planned edit m ≡ done d
-    unfolding planned
-    plan-done p w = rw (h, p, w)
-
   -- the end map of a plan is within its ceilings
   pub plan-within : (d : Draft) → planned edit m ≡ done d → withinCeilings (d .map) ≡ true
   unfolding planned

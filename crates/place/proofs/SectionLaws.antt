@@ -96,10 +96,6 @@ module _ (m : Map) (p : Point3) (normal : Point2) (s : BoundaryRef) (es : Ends) 
   unfolding withSide
   side-some b q = rw q
 
-  side-empty : widened p normal none es ≡ es
-  unfolding widened
-  side-empty = refl
-
 -- es are the ends after k sides
 pub record Siding (m : Map) (p : Point3) (normal : Point2) (row : LaneRow) (first es : Ends) (k : ℕ) : Type 0 where
   pub within : k ≤ 2

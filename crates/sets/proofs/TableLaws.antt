@@ -202,18 +202,6 @@ module _ (u v : List ℕ) (room : ℕ) (r : Counts) (g : ChangeSet) (h : Made u 
       let z = length-d in
       and-i _ _ (and-i _ _ (le-leb (length (g .created)) maxEntries (omega arith)) (le-leb (length (g .modified)) maxEntries (omega arith))) (le-leb (length (g .deleted)) maxEntries (omega arith))
 
-  pub over-created : 512 < r .created → false ≡ foldFits g
-  over-created k = sym (unfit-c k)
-
-  pub over-modified : 512 < r .modified → false ≡ foldFits g
-  over-modified k = sym (unfit-m k)
-
-  pub over-deleted : 512 < r .deleted → false ≡ foldFits g
-  over-deleted k = sym (unfit-d k)
-
-  pub not-over : r .created ≤ 512 → r .modified ≤ 512 → r .deleted ≤ 512 → true ≡ foldFits g
-  not-over a b d = sym (fit a b d)
-
 no-warnings : (x y : ChangeSet) → foldStep x y ≡ record { created = foldStep x y .created; modified = foldStep x y .modified; deleted = foldStep x y .deleted; warnings = [] }
 unfolding foldStep normalize
 no-warnings x y = refl
@@ -349,8 +337,6 @@ fits-joins f c u room x y w s =
     let c2 = y .room .few 2 (omega arith) in
     record { first = x; second = y; created = omega arith; modified = omega arith; deleted = omega arith; size = s }
 
-pub ruleset fitting = (fits-joins, over-created, over-modified, over-deleted, not-over)
-
 module _ (f c : List ℕ) (p : Bool) (a : p ≡ listsOkIn f) where
   pub bad-fold : not p ≡ true → FoldCalled f c (Refused BadSet) f
   unfolding foldTables
@@ -381,6 +367,3 @@ crowd-told f c a0 b0 a1 b1 a2 b2 e d g h i j = rw (e, d, g, h, i, j)
 
 pub fits-told : (t : List ℕ) (p : Bool) → p ≡ listsOkIn t → not p ≡ false → Fits t
 fits-told t p a m = fits-ok t (sym a ∙ yes-of p m)
-
-pub few-told : (r k : ℕ) → r ≡ k → r ≤ 64 → k ≤ 64
-few-told r k e h = omega arith

@@ -8,7 +8,6 @@ ghost use Rattle.changes.specs.Layout.{setWords, countIn, listIn};
 ghost use Rattle.changes.specs.Walk.{refsTo, Put};
 ghost use mathlib.Core.Bool.{_&&_};
 ghost use Rattle.changes.specs.ChangeSet.{foldStep};
-ghost use Rattle.changes.specs.Running.{foldFits};
 ghost use Rattle.changes.specs.ChangeFile.{maxEntries, entries, apart, listsApart};
 ghost use Rattle.changes.specs.Layout.{changeSetOf, listsOkIn};
 ghost use Rattle.sets.specs.Tables.{crowdOf, putList, putLists, createdIn, modifiedIn, deletedIn, Fits, Joins, United, Rises, Settled, Made, Stores};
@@ -230,26 +229,6 @@ pub fn fold_fitted(f: &mut [u64], c: &[u64]) -> Folded
     let mut u = [0; 6144];
     let mut v = [0; 6144];
     fold_in(f, c, &mut u, &mut v, 1024)
-}
-
-// Whether the lists of that fold would be within their room.
-pub fn fold_fits(f: &[u64], c: &[u64]) -> bool
-    requires { ⌜ Fits (now f) × Fits (now c) ⌝ }
-    ensures { λ r. ⌜ r ≡ foldFits (foldStep (changeSetOf (now (f .entry))) (changeSetOf (now (c .entry)))) ⌝ }
-{
-    let mut u = [0; 6144];
-    let mut v = [0; 6144];
-    let n = gather(&mut u, &mut v, 1024, f, c);
-    if layout::ENTRIES < n.created {
-        return false;
-    }
-    if layout::ENTRIES < n.modified {
-        return false;
-    }
-    if layout::ENTRIES < n.deleted {
-        return false;
-    }
-    true
 }
 
 // The fold call: c taken into f. 13 for lists that are not those of a set, 10 where a list would be too long; then f is as it was.

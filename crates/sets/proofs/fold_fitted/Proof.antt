@@ -24,7 +24,7 @@ slice-aggregate-fold-in-2 : tie.Need-slice-aggregate-fold-in-2
 slice-aggregate-fold-in-2 c = search needs
 
 fold-in-requires : tie.Need-fold-in-requires
-fold-in-requires c κs = (search (needs, L.fitting), omega arith)
+fold-in-requires c κs = (search (needs, L.fits-joins), omega arith)
 
 same-length-2 : tie.Need-same-length-2
 same-length-2 c = search needs
