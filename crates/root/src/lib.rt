@@ -100,7 +100,7 @@ pub extern "C" fn square_root(x: f64) -> f64
     ensures { λ r. ⌜ r ≡ squareRoot x ⌝ }
 {
     if x != x {
-        return x;
+        return 0.0 / 0.0;
     }
     let r = square_root_bits(f64::to_bits(x));
     if r == 0x7FF8_0000_0000_0000 {
