@@ -15,6 +15,8 @@ use borrow.Author.Tests.{lt-ltb, le-ltb}
 use Rattle.codec.specs.Format.{Bytes, Read, fault, got, andThen, both}
 use Rattle.codec.specs.Number.{split}
 use Rattle.codec.specs.Double.{lowBytes, readLow, double, holds}
+use Rattle.codec.specs.Answers.{DoubleRead}
+use Rattle.codec.specs.declared.Double.the-variants as D
 
 -- ---- eight bytes
 
@@ -117,7 +119,13 @@ module _ (s : Bytes) (at : ℕ) where
     unfolding double
     double-got h = rw (e, nan-test n, le-ltb 0x7FF0_0000_0000_0000 (n % 2 ^ 63) h)
 
-pub ruleset reading-double = (double-short, double-cut, double-nan, double-got, no-nan)
+  pub double-fault : fault ≡ double .read (drop at s) → DoubleRead s at D.Fault
+  double-fault e = record { read = e; place = λ x n f. absurd (let z : _≡_ {A = ℕ} 0 1 = cc in let q : ⊥ = omega arith in q) }
+
+  pub double-there : (x : Float) → got x (drop (at + 8) s) ≡ double .read (drop at s) → DoubleRead s at (D.Got x (at + 8))
+  double-there x e = record { read = e; place = λ y n f. cc }
+
+pub ruleset reading-double = (double-fault, double-there, double-short, double-cut, double-nan, double-got, no-nan)
 
 -- ---- for callers
 

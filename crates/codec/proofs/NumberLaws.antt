@@ -7,23 +7,40 @@ use native.Mathlib.Omega.{arith}
 use native.Mathlib.Nat.{pow-suc, pow-le-pow-right, mul-le-mul-right, one-le-pow}
 use native.Mathlib.Numerals.{add-one}
 use lib.Dec.{ltb, leb}
-use lib.ListN.{length, getD, drop, set, length-set, drop-of-length-le}
+use lib.ListN.{length, getD, drop, set, length-set, length-append, length-drop, drop-of-length-le}
 use lib.Seq.{drop-cons, sets}
 use borrow.Author.Tests.{lt-ltb, le-ltb, ltb-true, ltb-false}
 use Rattle.codec.specs.Format.{Bytes, Read, fault, got}
-use Rattle.codec.specs.Answers.{Wrote}
+use Rattle.codec.specs.Answers.{NumberRead, Wrote}
 use Rattle.codec.specs.Number.{number, groups, groupsFrom, lastGroup, split}
+use Rattle.codec.specs.declared.Number.the-variants as N
+
+-- a number that ends at n, within the bytes: its written form stands there, so n is the place after it
+number-got : (s : Bytes) (at v n : ℕ) → at ≤ n → n ≤ length s → got v (drop n s) ≡ number .read (drop at s) → NumberRead s at (N.Got v n)
+number-got s at v n l h e =
+    let form : length (drop at s) ≡ length (number .write v ++ drop n s) = ap length (number .back (drop at s) v (drop n s) (sym e) .1) in
+    record {
+      read = e;
+      place = λ u m f.
+          let x : v ≡ u = cc in
+          let y : n ≡ m = cc in
+          rw (← x, ← y) (omega (arith, simp (length-append, length-drop) at form));
+    }
+
+pub number-fault : (s : Bytes) (at : ℕ) → fault ≡ number .read (drop at s) → NumberRead s at N.Fault
+number-fault s at e = record { read = e; place = λ v n f. absurd (let z : _≡_ {A = ℕ} 0 1 = cc in let q : ⊥ = omega arith in q) }
 
 -- After k groups, which give n, the rest of the number starts at i with the given weight.
 pub record Reading (s : Bytes) (at n weight i k : ℕ) : Type 0 where
   pub few : k ≤ 9
   pub weighs : weight ≡ 128 ^ k
   pub low : n < weight
+  pub on : at ≤ i
   pub goes : groupsFrom (suc (9 - k)) weight n (drop i s) ≡ number .read (drop at s)
 
 pub starts : (s : Bytes) (at : ℕ) → Reading s at 0 1 at 0
 unfolding number
-starts s at = record { few = omega arith; weighs = refl; low = omega arith; goes = refl }
+starts s at = record { few = omega arith; weighs = refl; low = omega arith; on = omega arith; goes = refl }
 
 module _ (s : Bytes) (at n w i k : ℕ) (r : Reading s at n w i k) where
   pub short : length s ≤ i → fault ≡ number .read (drop at s)
@@ -38,13 +55,16 @@ module _ (s : Bytes) (at n w i k : ℕ) (r : Reading s at n w i k) where
     unfolding groupsFrom
     last l = sym (r .goes) ∙ rw (drop-cons s i 0 h, lt-ltb (getD s i 0) 128 l, add-one i)
 
-    pub alone : b < 128 → k ≡ 0 → got b (drop (i + 1) s) ≡ number .read (drop at s)
+    ends-here : (v : ℕ) → got v (drop (i + 1) s) ≡ number .read (drop at s) → NumberRead s at (N.Got v (i + 1))
+    ends-here v e = number-got s at v (i + 1) (omega (arith, r .on)) (omega arith) e
+
+    pub alone : b < 128 → k ≡ 0 → NumberRead s at (N.Got b (i + 1))
     unfolding lastGroup
     alone l z =
         let w1 : w ≡ 1 = r .weighs ∙ ap (λ m. 128 ^ m) z in
         let n0 : n ≡ 0 = omega (arith, r .low) in
         let e : 0 + b * 1 ≡ b = omega arith in
-        rw (last l, w1, n0, e, lt-ltb b (2 ^ 64) (omega arith))
+        ends-here b (rw (last l, w1, n0, e, lt-ltb b (2 ^ 64) (omega arith)))
 
     heavy : (k ≡ 0 → ⊥) → 2 ≤ w
     heavy z = omega (arith, r .weighs, pow-le-pow-right {n = 128} (omega arith) {i = 1} {j = k} (omega arith))
@@ -62,9 +82,9 @@ module _ (s : Bytes) (at n w i k : ℕ) (r : Reading s at n w i k) where
     unfolding lastGroup
     zero-last l z e = rw (last l, le-ltb w 2 (heavy z), e)
 
-    pub on-top : b < 128 → (k ≡ 0 → ⊥) → (b ≡ 0 → ⊥) → k < 9 → got (n + b * w) (drop (i + 1) s) ≡ number .read (drop at s)
+    pub on-top : b < 128 → (k ≡ 0 → ⊥) → (b ≡ 0 → ⊥) → k < 9 → NumberRead s at (N.Got (n + b * w) (i + 1))
     unfolding lastGroup
-    on-top l z e f = rw (last l, le-ltb w 2 (heavy z), lt-ltb 0 b (omega arith), lt-ltb (n + b * w) (2 ^ 64) (sum l f))
+    on-top l z e f = ends-here (n + b * w) (rw (last l, le-ltb w 2 (heavy z), lt-ltb 0 b (omega arith), lt-ltb (n + b * w) (2 ^ 64) (sum l f)))
 
     pub part : k < 9 → b % 128 * w < 2 ^ 64
     part f = omega (arith, small f, mul-le-mul-right {m = b % 128} {n = 127} w (omega arith))
@@ -86,6 +106,7 @@ module _ (s : Bytes) (at n w i k : ℕ) (r : Reading s at n w i k) where
           few = omega arith;
           weighs = rw (add-one k, pow-suc, r .weighs);
           low = parts f;
+          on = omega (arith, r .on);
           goes = rw (← e, add-one i) (rw (drop-cons s i 0 h, le-ltb b 128 l, lt-ltb b 256 u) at (r .goes));
         }
 
@@ -97,11 +118,11 @@ module _ (s : Bytes) (at n w i k : ℕ) (r : Reading s at n w i k) where
     pub top-sum : 9 ≤ k → n + w < 2 ^ 64
     top-sum f = omega (arith, top f .1, r .low)
 
-    pub tenth : 9 ≤ k → b ≡ 1 → got (n + w) (drop (i + 1) s) ≡ number .read (drop at s)
+    pub tenth : 9 ≤ k → b ≡ 1 → NumberRead s at (N.Got (n + w) (i + 1))
     unfolding lastGroup
     tenth f e =
         let m : 1 * w ≡ w = omega arith in
-        rw (last (omega arith), e, m, le-ltb w 2 (omega (arith, top f .1)), lt-ltb (n + w) (2 ^ 64) (top-sum f))
+        ends-here (n + w) (rw (last (omega arith), e, m, le-ltb w 2 (omega (arith, top f .1)), lt-ltb (n + w) (2 ^ 64) (top-sum f)))
 
     pub no-tenth : 9 ≤ k → (b ≡ 1 → ⊥) → b < 256 → fault ≡ number .read (drop at s)
     unfolding groupsFrom lastGroup
@@ -117,7 +138,7 @@ module _ (s : Bytes) (at n w i k : ℕ) (r : Reading s at n w i k) where
         let z : 9 - k ≡ 0 = omega arith in
         rw (z, drop-cons s i 0 h, t, lt-ltb b 256 u) at (r .goes))
 
-pub ruleset reading = (starts, short, alone, product, sum, zero-last, on-top, part, part-sum, heavier, more, top-sum, tenth, no-tenth)
+pub ruleset reading = (number-fault, starts, short, alone, product, sum, zero-last, on-top, part, part-sum, heavier, more, top-sum, tenth, no-tenth)
 
 -- ---- writing
 

@@ -9,7 +9,7 @@ ghost use lib.Seq.{sets};
 ghost use Rattle.codec.specs.Format.{got};
 ghost use Rattle.codec.specs.Number.{number};
 ghost use Rattle.codec.specs.Double.{readLow, lowBytes, double};
-ghost use Rattle.codec.specs.Answers.{numberOf, doubleOf, Wrote};
+ghost use Rattle.codec.specs.Answers.{NumberRead, DoubleRead, Wrote};
 
 // What is read as a whole number, and the place after it.
 pub enum Number {
@@ -18,7 +18,7 @@ pub enum Number {
 }
 
 pub fn read_number(s: &[u8], at: usize) -> Number
-    ensures { λ r. ⌜ numberOf (now (s .entry)) r ≡ number .read (drop at (now (s .entry))) ⌝ }
+    ensures { λ r. ⌜ NumberRead (now (s .entry)) at r ⌝ }
 {
     let mut n: u64 = 0;
     let mut weight: u64 = 1;
@@ -120,7 +120,7 @@ pub enum Double {
 }
 
 pub fn read_double(s: &[u8], at: usize) -> Double
-    ensures { λ r. ⌜ doubleOf (now (s .entry)) r ≡ double .read (drop at (now (s .entry))) ⌝ }
+    ensures { λ r. ⌜ DoubleRead (now (s .entry)) at r ⌝ }
 {
     if s.len() < 8 {
         return Double::Fault;

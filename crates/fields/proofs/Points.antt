@@ -17,7 +17,7 @@ use Rattle.rows.specs.Lists.{listTo}
 use Rattle.codec.specs.Format.{Bytes, Read, fault, got, andThen, Format, only, via, _⊗_, both, no-true}
 use Rattle.codec.specs.Number.{split}
 use Rattle.codec.specs.Double.{double}
-use Rattle.codec.specs.Answers.{doubleOf}
+use Rattle.codec.specs.Answers.{DoubleRead}
 use Rattle.codec.specs.declared.Double.{Double}
 use Rattle.codec.specs.declared.Double.the-variants as D
 use Rattle.geometry.specs.Double.{onMap, isFinite, absolute, farthest}
@@ -62,14 +62,14 @@ module _ (s : Bytes) (p : Place) (cs : List Float) (c : ℕ) (h : c < length cs)
   pub cell-none : p ≡ P.Fault → Cells coordinate 1 cellAt s p cs c P.Fault cs
   cell-none e = cell-lost (rw e)
 
-  module _ (i : ℕ) (e : p ≡ P.At i) (a : Double) (ea : doubleOf s a ≡ double .read (drop i s)) where
+  module _ (i : ℕ) (e : p ≡ P.At i) (a : Double) (ea : DoubleRead s i a) where
     pub cell-cut : a ≡ D.Fault → Cells coordinate 1 cellAt s p cs c P.Fault cs
     unfolding coordinate only
-    cell-cut f = cell-lost (rw (e, ← ea, f))
+    cell-cut f = cell-lost (rw (e, ← ea .read, f))
 
     module _ (x : Float) (next : ℕ) (fa : a ≡ D.Got x next) where
       reads : double .read (drop i s) ≡ got x (drop next s)
-      reads = rw fa at (sym ea)
+      reads = rw fa at (sym (ea .read))
 
       on : onMap x ≡ le lowest x && le x farthest
       unfolding double
@@ -108,14 +108,14 @@ module _ (s : Bytes) (p : Place) (cs : List Float) (c : ℕ) (h : c < length cs)
   pub height-none : p ≡ P.Fault → Cells height 1 cellAt s p cs c P.Fault cs
   height-none e = height-lost (rw e)
 
-  module _ (i : ℕ) (e : p ≡ P.At i) (a : Double) (ea : doubleOf s a ≡ double .read (drop i s)) where
+  module _ (i : ℕ) (e : p ≡ P.At i) (a : Double) (ea : DoubleRead s i a) where
     pub height-cut : a ≡ D.Fault → Cells height 1 cellAt s p cs c P.Fault cs
     unfolding height only
-    height-cut f = height-lost (rw (e, ← ea, f))
+    height-cut f = height-lost (rw (e, ← ea .read, f))
 
     module _ (x : Float) (next : ℕ) (fa : a ≡ D.Got x next) where
       double-reads : double .read (drop i s) ≡ got x (drop next s)
-      double-reads = rw fa at (sym ea)
+      double-reads = rw fa at (sym (ea .read))
 
       finite : isFinite x ≡ lt (neg above) x && lt x above
       unfolding double

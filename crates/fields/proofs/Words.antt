@@ -15,7 +15,7 @@ use Rattle.rows.proofs.Indexed.{listTo-same}
 use Rattle.codec.specs.Format.{Bytes, Read, fault, got, andThen, Format, only}
 use Rattle.codec.specs.Number.{number}
 use Rattle.codec.specs.Items.{list}
-use Rattle.codec.specs.Answers.{numberOf}
+use Rattle.codec.specs.Answers.{NumberRead}
 use Rattle.codec.specs.declared.Number.{Number}
 use Rattle.codec.specs.declared.Number.the-variants as N
 use Rattle.map.specs.MapFile.{numbers}
@@ -35,26 +35,26 @@ module _ (least most : ℕ) (s : Bytes) (p : Place) (ws : List ℕ) (o : ℕ) (h
   pub word-none : p ≡ P.Fault → Word least most s p ws o P.Fault (set ws o 0)
   word-none e = lost (rw e)
 
-  module _ (i : ℕ) (e : p ≡ P.At i) (a : Number) (ea : numberOf s a ≡ number .read (drop i s)) where
+  module _ (i : ℕ) (e : p ≡ P.At i) (a : Number) (ea : NumberRead s i a) where
     pub word-cut : a ≡ N.Fault → Word least most s p ws o P.Fault (set ws o 0)
     unfolding range only
-    word-cut f = lost (rw (e, ← ea, f))
+    word-cut f = lost (rw (e, ← ea .read, f))
 
     module _ (n next : ℕ) (fa : a ≡ N.Got n next) where
       pub word-low : n < least → Word least most s p ws o P.Fault (set ws o 0)
       unfolding range only
-      word-low l = lost (rw (e, ← ea, fa, lt-leb least n l))
+      word-low l = lost (rw (e, ← ea .read, fa, lt-leb least n l))
 
       pub word-high : least ≤ n → most < n → Word least most s p ws o P.Fault (set ws o 0)
       unfolding range only
-      word-high l m = lost (rw (e, ← ea, fa, le-leb least n l, lt-leb n most m))
+      word-high l m = lost (rw (e, ← ea .read, fa, le-leb least n l, lt-leb n most m))
 
       pub word-got : least ≤ n → n ≤ most → Word least most s p ws o (P.At next) (set (set ws o 0) o n)
       unfolding range only
       word-got l m =
           let v : getD (set ws o n) o 0 ≡ n = getD-set-same ws o n 0 h in
           rw (set-set ws o 0 n)
-          (record { words = changed-at ws o n; few = rw v m; is = rw (v, e, ← ea, fa, le-leb least n l, le-leb n most m) })
+          (record { words = changed-at ws o n; few = rw v m; is = rw (v, e, ← ea .read, fa, le-leb least n l, le-leb n most m) })
 
 pub ruleset reading-word = (word-none, word-cut, word-low, word-high, word-got)
 

@@ -1,6 +1,6 @@
 -- What the readers of the unused bytes are proved by.
 use Prim.Native.Nat.{ℕ, _-_, _≤_}
-use mathlib.Core.Path.{_≡_, sym, ap, subst, _∙_}
+use mathlib.Core.Path.{_≡_, refl, sym, ap, subst, _∙_}
 use mathlib.Core.List.{List}
 use lib.Ieee.{Float}
 use lib.ListN.{length, take, drop, length-drop, drop-of-length-le}
@@ -8,8 +8,7 @@ use lib.Seq.{take-all}
 use native.Mathlib.Omega.{arith}
 use denote.Ref.{now}
 use Rattle.codec.specs.Format.{Bytes}
-use Rattle.codec.specs.Number.{number}
-use Rattle.codec.specs.Answers.{numberOf}
+use Rattle.codec.specs.Answers.{NumberRead}
 use Rattle.codec.specs.declared.Number.{Number}
 use Rattle.codec.specs.declared.Number.the-variants as N
 use Rattle.files.specs.ReadInto.{MapReadInto, ChangesReadInto}
@@ -36,7 +35,7 @@ pub changes-read : (s : Bytes) (at n : ℕ) {t : List ℕ} {r : ChangesRead} {t�
 changes-read s at n {t} {r} {t′} e h = subst (λ p. ChangesReadInto p t r t′) (to-end s n ∙ e) h
 
 -- a number read at the place, and the place after it
-pub number-taken : (r : Reader) (n : Number) (m : ℕ) → numberOf (now (r .bytes)) n ≡ number .read (unused r) → m ≡ placeAfter n (r .at)
+pub number-taken : (r : Reader) (n : Number) (m : ℕ) → NumberRead (now (r .bytes)) (r .at) n → m ≡ placeAfter n (r .at)
     → NumberTaken r n (record { bytes = r .bytes; at = m })
-number-taken r (N.Got v k) m e p = record { is = ap (λ i. taken (N.Got v k) (drop i (now (r .bytes)))) p ∙ e; moved = λ i. record { bytes = r .bytes; at = p i } }
-number-taken r N.Fault m e p = record { is = e; moved = λ i. record { bytes = r .bytes; at = p i } }
+number-taken r (N.Got v k) m e p = record { is = ap (λ i. taken (N.Got v k) (drop i (now (r .bytes)))) p ∙ e .read; moved = λ i. record { bytes = r .bytes; at = p i }; place = p ∙ e .place v k refl }
+number-taken r N.Fault m e p = record { is = e .read; moved = λ i. record { bytes = r .bytes; at = p i }; place = omega arith }

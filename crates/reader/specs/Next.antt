@@ -1,7 +1,8 @@
 -- What reading one number leaves of a reader.
-use Prim.Native.Nat.{ℕ}
+use Prim.Native.Nat.{ℕ, _+_}
 use mathlib.Core.Path.{_≡_}
-use lib.ListN.{drop}
+use mathlib.Core.List.{[]}
+use lib.ListN.{length, drop}
 use denote.Ref.{now}
 use Rattle.codec.specs.Format.{Bytes, Read, fault, got}
 use Rattle.codec.specs.Number.{number}
@@ -22,7 +23,13 @@ abbrev pub taken : Number → Bytes → Read ℕ
 taken (N.Got v n) s = got v s
 taken N.Fault s = fault
 
--- the answer and what is left are what the format reads; the bytes are the same, and after a fault the place is
+-- the bytes that the answer used: a number's written form, and nothing of a fault
+abbrev pub used : Number → Bytes
+used (N.Got v n) = number .write v
+used N.Fault = []
+
+-- the answer and what is left are what the format reads; the bytes are the same, and the place is further by what was used
 pub record NumberTaken (old : Reader) (r : Number) (new : Reader) : Type 0 where
   pub is : taken r (unused new) ≡ number .read (unused old)
   pub moved : new ≡ record { bytes = old .bytes; at = placeAfter r (old .at) }
+  pub place : new .at ≡ old .at + length (used r)

@@ -41,8 +41,7 @@ use denote.Triple.Entry.{onEntry}
 use denote.Triple.Spec.{Meets, tripleOf}
 use denote.Triple.Table.{entered, cited}
 use denote.Triple.Walked.{says, Stays, stay-ref, walkOf, goes-ref, Walks, ends-at, walked, walk-meets}
-use Rattle.codec.specs.Answers.{numberOf}
-use Rattle.codec.specs.Number.{number}
+use Rattle.codec.specs.Answers.{NumberRead}
 use Rattle.codec.specs.declared.Number.{Number}
 use Rattle.codec.proofs.Number as N
 use Rattle.codec.proofs.Number.Laws as N′
@@ -50,7 +49,7 @@ use Rattle.codec.proofs.read_number as read-number
 use Rattle.codec.proofs.read_number.Symbol as read-number-def
 use Rattle.codec.proofs.read_number.Symbol.{name as #codec·read-number}
 use Rattle.codec.proofs.read_number.Met as read-number-thm
-use Rattle.reader.specs.Next.{unused, placeAfter, NumberTaken}
+use Rattle.reader.specs.Next.{placeAfter, NumberTaken}
 use Rattle.reader.specs.declared.Reader.{Reader}
 use Rattle.reader.proofs.Reader as T
 use Rattle.reader.proofs.Reader.Laws as T′
@@ -113,7 +112,7 @@ module _ {M : Type 1} (𝓤 : URA M) (H : Heap 𝓤) (A : Atoms 𝓤) (W : Given
   to-read = (((κ′, tt), (q′, tt), tt, (d .bytes, (d .at, tt)), (sliceVal (d .bytes .ptr) (length (d .bytes .now)) ∷ [], (vint w64 (d .at) ∷ [], tt))), tt)
 
   abbrev Read : Number → Type 0
-  Read n = numberOf (now (d .bytes)) n ≡ number .read (unused d)
+  Read n = NumberRead (now (d .bytes)) (d .at) n
 
   -- the fields of the reader are what is asked for, in their order
   asks-read : ent 𝓤 (⋆ 𝓤 H A (‵ Own ∷ (‵ (flft κ′ q′) ⊛ ‵ ftrue) ∷ [])) (Reads 𝓤 H A at-mem run .pre to-read)
