@@ -98,7 +98,7 @@ pub fn counted(c: Count, refused: bool, right: bool, sum: u64) -> Count {
 }
 
 fn read_set(file: &[u8], words: &mut [u64]) -> u64 {
-    let read = files::read_changes(file, words);
+    let read = reader::read_changes_file(file, words);
     match read {
         ChangesRead::Done => 0,
         ChangesRead::Refused(why) => refusal::number(why),
@@ -106,7 +106,7 @@ fn read_set(file: &[u8], words: &mut [u64]) -> u64 {
 }
 
 fn read_map(file: &[u8], words: &mut [u64], coords: &mut [f64]) -> u64 {
-    let read = files::read_map(file, words, coords);
+    let read = reader::read_map_file(file, words, coords);
     match read {
         MapRead::Done => 0,
         MapRead::Refused(why) => refusal::number(why),

@@ -11,7 +11,7 @@ ghost use Rattle.files_export.specs.Left.{MapReadLeft, MapOpenedLeft, Ch
 pub extern "C" fn lane_map_read(file: &[u8], words: &mut [u64], coords: &mut [f64]) -> u64
     ensures { λ r. ⌜ MapReadLeft (now (file .entry)) (now (words .entry)) (now (coords .entry)) r (now (words .exit)) (now (coords .exit)) ⌝ }
 {
-    let read = files::read_map(file, words, coords);
+    let read = reader::read_map_file(file, words, coords);
     match read {
         MapRead::Done => 0,
         MapRead::Refused(x) => refusal::number(x),
@@ -44,7 +44,7 @@ pub extern "C" fn lane_map_open(
 pub extern "C" fn lane_map_read_changes(file: &[u8], set: &mut [u64]) -> u64
     ensures { λ r. ⌜ ChangesReadLeft (now (file .entry)) (now (set .entry)) r (now (set .exit)) ⌝ }
 {
-    let read = files::read_changes(file, set);
+    let read = reader::read_changes_file(file, set);
     match read {
         ChangesRead::Done => 0,
         ChangesRead::Refused(x) => refusal::number(x),

@@ -4,8 +4,8 @@ use borrow.Author.Needs.{needs}
 use Rattle.files_export.proofs.lane_map_read.Statement.{statement}
 use Rattle.files_export.proofs.lane_map_read.Tie as tie
 
-read-map-requires : tie.Need-read-map-requires
-read-map-requires c κs = search needs
+read-map-file-requires : tie.Need-read-map-file-requires
+read-map-file-requires c κs = search needs
 
 enum-told : tie.Need-enum-told
 enum-told c = search needs
@@ -38,7 +38,7 @@ pub lane-map-read-spec : {M : Type 1} → statement M
 lane-map-read-spec =
     tie.close
     (tie.spec
-    read-map-requires
+    read-map-file-requires
     enum-told
     enum-known-read
     number-requires

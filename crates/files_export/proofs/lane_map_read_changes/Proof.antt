@@ -4,8 +4,8 @@ use borrow.Author.Needs.{needs}
 use Rattle.files_export.proofs.lane_map_read_changes.Statement.{statement}
 use Rattle.files_export.proofs.lane_map_read_changes.Tie as tie
 
-read-changes-requires : tie.Need-read-changes-requires
-read-changes-requires c κs = search needs
+read-changes-file-requires : tie.Need-read-changes-file-requires
+read-changes-file-requires c κs = search needs
 
 enum-told : tie.Need-enum-told
 enum-told c = search needs
@@ -32,7 +32,7 @@ pub lane-map-read-changes-spec : {M : Type 1} → statement M
 lane-map-read-changes-spec =
     tie.close
     (tie.spec
-    read-changes-requires
+    read-changes-file-requires
     enum-told
     enum-known-read
     number-requires
