@@ -1,14 +1,15 @@
 -- A set normalized and folded: what settling it answers, and what taking it in leaves. Assumes nothing.
 use Prim.Native.Nat.{ℕ, zero, suc, _+_, _≤_, _<_}
 use mathlib.Core.Path.{_≡_, refl, sym, ap, _∙_}
-use mathlib.Core.Bool.{Bool, true, false, not}
+use mathlib.Core.Bool.{Bool, true, false, not, _&&_}
 use mathlib.Core.List.{List, [], _++_, append-nil}
 use native.Mathlib.Omega.{arith}
 use lib.Dec.{leb}
 use lib.ListN.{length, getD, drop, length-append}
 use lib.Seq.{take-length, drop-length}
-use borrow.Author.Tests.{le-leb, leb-true}
+use borrow.Author.Tests.{le-leb, leb-true, lt-leb}
 use Rattle.rows.specs.Rows.{pasted}
+use Rattle.rows.proofs.Bools.{and-no}
 use Rattle.refusal.specs.Answer.{Answer, refused, done, refusedAs, refuseWhen, _>>_}
 use Rattle.refusal.specs.declared.Refusal.{Refusal}
 use Rattle.refusal.specs.declared.Refusal.the-variants as e
@@ -30,7 +31,7 @@ use Rattle.normal.proofs.SortLaws.{normal-already}
 use Rattle.placing.specs.declared.Checked.{Checked}
 use Rattle.placing.specs.declared.Checked.the-variants as k
 use Rattle.placing.specs.Answers.{checked}
-use Rattle.finishing.specs.Finish.{settled, RoomyAll, Few, FoldRoom, Tried, Settles, TakenIn}
+use Rattle.finishing.specs.Finish.{settled, RoomyAll, Few, isFew, FoldRoom, Tried, Settles, SettlesTable, TakenIn}
 
 -- ---- a normalized list rises and is no longer than it was
 
@@ -97,12 +98,29 @@ few-fits f c a b d few = rw (
 pub fold-long : (f : List ℕ) → listsOkIn f ≡ true → length f ≡ setWords
 fold-long f h = fits-ok f h .room .size
 
-pub no-room : (f : List ℕ) (late : Bool) → FoldRoom f late false
-no-room f late = record { fine = λ q. let z : _≡_ {A = ℕ} 0 1 = cc in absurd (omega arith) }
+-- ---- whether the fold has room
+
+-- few entries, by the table's counts
+few-counts : (f : List ℕ) → isFew (changeSetOf f) ≡ (leb (getD f 0 0) 256 && leb (getD f 1 0) 256 && leb (getD f 2 0) 256)
+unfolding isFew changeSetOf countIn
+few-counts f = rw (length-in f 0, length-in f 1, length-in f 2)
+
+no-room : (f : List ℕ) (late : Bool) → (not late && isFew (changeSetOf f)) ≡ false → FoldRoom f late false
+no-room f late e = record { exact = sym e; fine = λ q. let z : _≡_ {A = ℕ} 0 1 = cc in absurd (omega arith) }
+
+pub late-room : (f : List ℕ) (late : Bool) → late ≡ true → FoldRoom f late false
+late-room f late t = no-room f late (rw t)
+
+pub created-room : (f : List ℕ) (late : Bool) → 256 < getD f 0 0 → FoldRoom f late false
+created-room f late h = no-room f late (rw (few-counts f, lt-leb (getD f 0 0) 256 h) (and-no (not late)))
+
+pub modified-room : (f : List ℕ) (late : Bool) → 256 < getD f 1 0 → FoldRoom f late false
+modified-room f late h = no-room f late (rw (few-counts f, lt-leb (getD f 1 0) 256 h, and-no (leb (getD f 0 0) 256)) (and-no (not late)))
 
 pub has-room : (f : List ℕ) (late : Bool) → late ≡ false → getD f 0 0 ≤ 256 → getD f 1 0 ≤ 256 → FoldRoom f late (leb (getD f 2 0) 256)
 unfolding settled changeSetOf countIn
 has-room f late t a b = record {
+  exact = rw (t, few-counts f, le-leb (getD f 0 0) 256 a, le-leb (getD f 1 0) 256 b);
   fine = λ q c few. rw (
     t,
     few-fits (changeSetOf f) c (omega (arith, length-in f 0)) (omega (arith, length-in f 1)) (omega (arith, length-in f 2, leb-true (getD f 2 0) 256 q)) few,
@@ -124,9 +142,9 @@ module _ (f d : List ℕ) (late : Bool) (g : List ℕ) (eg : g ≡ f) (q : Folde
   unfolding foldFitted
   answer-is = h .fold .answer ∙ rw (eg, h .set .set)
 
-  pub settles-refused : (x : Refusal) → q ≡ s.Refused x → Settles f (changeSetOf d) late (k.Refused x)
+  pub settles-refused : (x : Refusal) → q ≡ s.Refused x → SettlesTable f d late (k.Refused x) d′
   unfolding settled
-  settles-refused x e = record { answer = go fits (foldStep (changeSetOf f) (normalize (changeSetOf d))) (sym (ap (λ (y : Folded). foldedAs y (changeSetOf g′)) e) ∙ answer-is) }
+  settles-refused x e = record { tried = record { answer = go fits (foldStep (changeSetOf f) (normalize (changeSetOf d))) (sym (ap (λ (y : Folded). foldedAs y (changeSetOf g′)) e) ∙ answer-is) }; set = h .set }
     where
       go : (b : Bool) (w : ChangeSet) → refusedAs x ≡ (refuseWhen (not b) 10 [] >> done w) → refusedAs x ≡ (refuseWhen (not b) 10 [] >> refuseWhen late 11 [])
       go true w z = absurd (let y : _≡_ {A = ℕ} 0 1 = cc in omega arith)
@@ -139,13 +157,13 @@ module _ (f d : List ℕ) (late : Bool) (g : List ℕ) (eg : g ≡ f) (q : Folde
       go true w z = refl
       go false w z = absurd (let y : _≡_ {A = ℕ} 0 1 = cc in omega arith)
 
-  pub settles-late : q ≡ s.Done → late ≡ true → Settles f (changeSetOf d) late (k.Refused e.NumbersSpent)
+  pub settles-late : q ≡ s.Done → late ≡ true → SettlesTable f d late (k.Refused e.NumbersSpent) d′
   unfolding settled
-  settles-late e t = record { answer = rw (does-fit e, t) }
+  settles-late e t = record { tried = record { answer = rw (does-fit e, t) }; set = h .set }
 
-  pub settles-fine : q ≡ s.Done → late ≡ false → Settles f (changeSetOf d) late k.Fine
+  pub settles-fine : q ≡ s.Done → late ≡ false → SettlesTable f d late k.Fine d′
   unfolding settled
-  settles-fine e t = record { answer = rw (does-fit e, t) }
+  settles-fine e t = record { tried = record { answer = rw (does-fit e, t) }; set = h .set }
 
 pub already : (d : List ℕ) (p : Bool) → p ≡ listsOkIn d → p ≡ true → Normalized d d
 already d p e t = normal-already d p e (rw t)
@@ -161,4 +179,4 @@ taken-in f d d′ n fits q f′ h = record { set = n .set; fold = go q (h .answe
     go s.Done z = cc
     go (s.Refused x) z = absurd (let y : _≡_ {A = ℕ} 0 1 = cc in omega arith)
 
-pub ruleset settling = (no-room, has-room)
+pub ruleset settling = (late-room, created-room, modified-room, has-room)

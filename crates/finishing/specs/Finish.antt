@@ -72,8 +72,13 @@ pub record Few (c : ChangeSet) : Type 0 where
   pub modified : length (c .modified) ≤ 256
   pub deleted : length (c .deleted) ≤ 256
 
--- where r is yes, no set with few entries is refused
+-- the same, to be computed
+unfoldable pub isFew : ChangeSet → Bool
+isFew c = leb (length (c .created)) 256 && leb (length (c .modified)) 256 && leb (length (c .deleted)) 256
+
+-- r is yes just where numbers are left and the fold has few entries; no set with few entries is refused then
 pub record FoldRoom (f : List ℕ) (late r : Bool) : Type 0 where
+  pub exact : r ≡ (not late && isFew (changeSetOf f))
   pub fine : r ≡ true → (c : ChangeSet) → Few c → settled (changeSetOf f) (normalize c) late ≡ done tt
 
 -- the table d normalized and taken into the fold f, or f as it was
@@ -84,6 +89,11 @@ pub record Tried (f d : List ℕ) (q : Folded) (f′ d′ : List ℕ) : Type 0 w
 -- r answers as settling c with the fold f does
 pub record Settles (f : List ℕ) (c : ChangeSet) (late : Bool) (r : Checked) : Type 0 where
   pub answer : checked r ≡ settled (changeSetOf f) (normalize c) late
+
+-- the same of the table d, which is left normalized
+pub record SettlesTable (f d : List ℕ) (late : Bool) (r : Checked) (d′ : List ℕ) : Type 0 where
+  pub tried : Settles f (changeSetOf d) late r
+  pub set : Normalized d d′
 
 -- the table d normalized, and taken into the fold f
 pub record TakenIn (f d f′ d′ : List ℕ) : Type 0 where

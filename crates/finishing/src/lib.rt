@@ -10,7 +10,7 @@ ghost use Rattle.changes.specs.ChangeSet.{normalize, foldStep};
 ghost use Rattle.changes.specs.Layout.{changeSetOf, listsOkIn};
 ghost use Rattle.changes.specs.Running.{foldFits};
 ghost use Rattle.placing.specs.Answers.{checked};
-ghost use Rattle.finishing.specs.Finish.{lentChecks, RoomyAll, FoldRoom, Tried, Settles, TakenIn};
+ghost use Rattle.finishing.specs.Finish.{lentChecks, RoomyAll, FoldRoom, Tried, SettlesTable, TakenIn};
 use changes::Tally;
 use changes::layout;
 use edit::Answered;
@@ -56,7 +56,7 @@ pub fn stored_ok(points: &[f64]) -> bool
     placing::lists::all_on_map(points)
 }
 
-// Whether no set with at most 256 entries in each list is refused: numbers are left, and the fold has that much room.
+// Whether numbers are left and the fold has at most 256 entries in each list: no set with so few entries is refused then.
 pub fn fold_room(fold: &[u64], late: bool) -> bool
     requires { ⌜ listsOkIn (now fold) ≡ true ⌝ }
     ensures { λ r. ⌜ FoldRoom (now (fold .entry)) late r ⌝ }
@@ -82,10 +82,10 @@ fn take_any(fold: &mut [u64], set: &mut [u64]) -> Folded
     sets::fold_fitted(fold, set)
 }
 
-// What settling the draft with the fold answers, tried on a copy: 10 where a list of the fold would be too long, then 11.
+// What settling the draft with the fold answers, tried on a copy: 10 where a list of the fold would be too long, then 11. The draft is left normalized.
 pub fn settles(fold: &[u64], draft: &mut [u64], late: bool) -> Checked
     requires { ⌜ (listsOkIn (now fold) ≡ true) × RoomyAll (now draft) ⌝ }
-    ensures { λ r. ⌜ Settles (now (fold .entry)) (changeSetOf (now (draft .entry))) late r ⌝ }
+    ensures { λ r. ⌜ SettlesTable (now (fold .entry)) (now (draft .entry)) late r (now (draft .exit)) ⌝ }
 {
     let mut copy = [0u64; 3556];
     rows::put(&mut copy, 0, fold);

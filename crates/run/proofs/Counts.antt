@@ -108,6 +108,17 @@ pub record Named (m n : Map) (alt : EntityRef → Bool) (c : ChangeSet) : Type 0
   pub modified : (a : EntityRef) → listed (c .modified) a ≡ (has m a && has n a && alt a)
   pub rises : (risingRefs (c .created) ≡ true) × (risingRefs (c .modified) ≡ true) × (risingRefs (c .deleted) ≡ true)
 
+pub set-list : (xs : List EntityRef) → risingRefs xs ≡ true → ((a : EntityRef) → listed xs a ≡ true → entry .fits a ≡ true) → leb (length xs) 512 ≡ true → entries .fits xs ≡ true
+set-list xs r f l = entries-fit xs r (every-listed (entry .fits) xs f) l
+
+off : (xs ys : List EntityRef) → ((a : EntityRef) → listed xs a ≡ true → listed ys a ≡ true → ⊥) → apart xs ys ≡ true
+unfolding apart
+off xs ys f = every-listed (λ a. not (listed ys a)) xs (λ a t. go a t (listed ys a) refl)
+  where
+    go : (a : EntityRef) → listed xs a ≡ true → (b : Bool) → listed ys a ≡ b → not b ≡ true
+    go a t true e = absurd (f a t e)
+    go a t false e = refl
+
 module _ (m n : Map) (alt : EntityRef → Bool) (c : ChangeSet) (p : isMap m ≡ true) (q : isMap n ≡ true) (k : Named m n alt c) where
   -- the lists are parts of the maps' own lists
   made : c .created ≡ keep (λ a. not (has m a)) (refsOf n)
@@ -150,17 +161,6 @@ module _ (m n : Map) (alt : EntityRef → Bool) (c : ChangeSet) (p : isMap m ≡
 
   pub gone-deleted : (a : EntityRef) → listed (c .deleted) a ≡ true → not (has n a) ≡ true
   gone-deleted a t = let u : (has m a && not (has n a)) ≡ true = rw (k .deleted a) at t in search parts
-
-  set-list : (xs : List EntityRef) → risingRefs xs ≡ true → ((a : EntityRef) → listed xs a ≡ true → entry .fits a ≡ true) → leb (length xs) 512 ≡ true → entries .fits xs ≡ true
-  set-list xs r f l = entries-fit xs r (every-listed (entry .fits) xs f) l
-
-  off : (xs ys : List EntityRef) → ((a : EntityRef) → listed xs a ≡ true → listed ys a ≡ true → ⊥) → apart xs ys ≡ true
-  unfolding apart
-  off xs ys f = every-listed (λ a. not (listed ys a)) xs (λ a t. go a t (listed ys a) refl)
-    where
-      go : (a : EntityRef) → listed xs a ≡ true → (b : Bool) → listed ys a ≡ b → not b ≡ true
-      go a t true e = absurd (f a t e)
-      go a t false e = refl
 
   -- they are the lists of a change set file
   pub named-lists : listsOk c ≡ true

@@ -144,13 +144,17 @@ pub record Kept (m : Map) (alt : EntityRef → Bool) (s : State) : Type 0 where
   pub grown : m .next ≤ s .map .next
   pub opened : isMap m ≡ true
 
+pub same-tally : (t : Tally) → sameTally t t ≡ true
+unfolding sameTally
+same-tally t = and-i _ _ (and-i _ _ (eq-eqb (t .created) (t .created) refl) (eq-eqb (t .modified) (t .modified) refl)) (eq-eqb (t .deleted) (t .deleted) refl)
+
 -- what is kept is a state that no call refuses with 12 or 13
 module _ (m : Map) (alt : EntityRef → Bool) (s : State) (k : Kept m alt s) where
   pub kept-lists : listsOk (s .fold) ≡ true
   kept-lists = named-lists m (s .map) alt (s .fold) (k .opened) (k .map) (k .named)
 
   pub kept-fold : foldOk s ≡ true
-  unfolding foldOk allBelow sameTally
+  unfolding foldOk allBelow
   kept-fold =
       and-i _ _ (and-i _ _ (and-i _ _ (and-i _ _ (and-i _ _ (and-i _ _ (and-i _ _ (k .quiet)
       (every-listed (λ a. ltb (a .num) (s .map .next)) (s .fold .created) (λ a t. lt-ltb _ _ (has-below (s .map) (k .map) a (made a t)))))
@@ -159,7 +163,7 @@ module _ (m : Map) (alt : EntityRef → Bool) (s : State) (k : Kept m alt s) whe
       (every-listed (has (s .map)) (s .fold .created) made))
       (every-listed (has (s .map)) (s .fold .modified) touched))
       (every-listed (λ a. not (has (s .map) a)) (s .fold .deleted) (gone-deleted m (s .map) alt (s .fold) (k .opened) (k .map) (k .named))))
-      (rw (k .tally) (same (tallyOf (s .fold))))
+      (rw (k .tally) (same-tally (tallyOf (s .fold))))
     where
       made : (a : EntityRef) → listed (s .fold .created) a ≡ true → has (s .map) a ≡ true
       made = now-created m (s .map) alt (s .fold) (k .opened) (k .map) (k .named)
@@ -172,9 +176,6 @@ module _ (m : Map) (alt : EntityRef → Bool) (s : State) (k : Kept m alt s) whe
 
       wide : (a : EntityRef) → a .num < m .next → m .next ≤ s .map .next → a .num < s .map .next
       wide a p q = omega arith
-
-      same : (t : Tally) → sameTally t t ≡ true
-      same t = and-i _ _ (and-i _ _ (eq-eqb (t .created) (t .created) refl) (eq-eqb (t .modified) (t .modified) refl)) (eq-eqb (t .deleted) (t .deleted) refl)
 
 -- ---- an edit that is finished keeps it
 
@@ -204,9 +205,9 @@ finished s d o e = go (every pointOnMap (d .stored)) (withinCeilings (d .map)) (
         let q : o ≡ end = cc in
         record { stored = pe; ceilings = qe; fits = re; spent = leb-false (2 ^ 64) (d .map .next) te; state = ap (λ (x : Outcome). x .state) q; changes = ap (λ (x : Outcome). x .changes) q }
 
-pub kept-step : (m : Map) (alt : EntityRef → Bool) (s : State) (d : Draft) (o : Outcome) → Kept m alt s → StepLaw (s .map) d → finish s d ≡ done o
+pub kept-step : (m : Map) (alt : EntityRef → Bool) (s : State) (d : Draft) (o : Outcome) → Kept m alt s → StepLaw (s .map) d → Finished s d o
     → Kept m (λ a. alt a || alters (s .map) (o .state .map) a) (o .state)
-kept-step m alt s d o k l e = go (finished s d o e)
+kept-step m alt s d o k l f = go f
   where
     set : ChangeSet
     set = normalize (d .changes)

@@ -11,4 +11,6 @@ mod LinksStep
 mod LightStep
 mod LightLine
 mod Refusals
+mod Passing
+pub mod Calls
 pub mod Runs

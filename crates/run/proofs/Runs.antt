@@ -1,110 +1,32 @@
 -- The law of every run, by induction over its edits.
 use mathlib.Core.Path.{_≡_, refl, sym, ap, subst, fun-ext, _∙_}
 use mathlib.Core.Bool.{Bool, true, false, not, _&&_, _||_, or-assoc}
-use mathlib.Core.Option.{Option, none, some}
-use mathlib.Core.List.{List, [], _∷_, _++_, append-nil}
+use mathlib.Core.List.{List, [], _∷_, _++_}
 use Prim.Native.Nat.{ℕ, suc, _<_, _≤_}
 use lib.Dec.{eqb, leb, ltb}
 use native.Mathlib.Omega.{arith}
 use borrow.Author.Tests.{leb-true, lt-ltb, ltb-true, ne-eqb}
 use Rattle.refusal.specs.Answer.{Answer, refused, done}
-use Rattle.rows.specs.Lists.{every, noEntries, joined, sameList, member, twice}
+use Rattle.rows.specs.Lists.{every, noEntries, joined, member, twice}
 use Rattle.rows.specs.Table.{rising}
 use Rattle.rows.proofs.Bools.{and-i, clash, or-no, parts}
-use Rattle.rows.proofs.Tables.{rising-wider, isSome}
-use Rattle.codec.specs.Format.{Bytes}
+use Rattle.rows.proofs.Tables.{rising-wider}
+use Rattle.codec.specs.Format.{same-form}
 use Rattle.map.specs.Entity.{EntityRef, listed, has, formOf}
 use Rattle.map.specs.MapFile.{isMap}
 use Rattle.map.specs.Record.{Map}
-use Rattle.map.proofs.Presence.{has-form}
-use Rattle.changes.specs.ChangeFile.{changeFile, listsOk, risingRefs, isSet, maxWarnings}
-use Rattle.changes.specs.ChangeSet.{Warning, ChangeSet, foldStep, foldOf, normalize, tallyOf}
-use Rattle.changes.specs.Running.{State, foldOk, foldFits, foldCall, opening}
+use Rattle.changes.specs.ChangeFile.{changeFile, risingRefs, isSet, maxWarnings}
+use Rattle.changes.specs.ChangeSet.{Warning, ChangeSet, foldStep, foldOf, tallyOf}
+use Rattle.changes.specs.Running.{State, foldOk, foldFits, opening}
 use Rattle.changes.proofs.Entries.{Warned, set-fits, none-warned}
-use Rattle.edit.specs.Edit.{Draft, Outcome, finish, call}
-use Rattle.edit.specs.Light.{lightEdit, addTrafficSignal}
-use Rattle.edit.specs.Links.{linksEdit, setRegulatoryLinks}
-use Rattle.edit.specs.StopLine.{stopLineEdit, addStopLine}
-use Rattle.run.specs.Law.{alters, altered, wellHanded, liftedBy, clearsLine, RunLaw, sameForm, differ, names, leaves, handed, handedOut}
-use Rattle.run.specs.Run.{Edit, line, signal, links, runOne, stateAfter, setsAfter, runAll, setsOf, calls, foldCalls}
-use Rattle.run.proofs.Answers.{went, past}
-use Rattle.run.proofs.Counts.{named-count, named-lists, Named}
-use Rattle.run.proofs.Fold.{Kept, finished, kept-lists, kept-fold, kept-step, Finished, set-named}
+use Rattle.edit.specs.Edit.{Outcome}
+use Rattle.run.specs.Law.{alters, altered, wellHanded, clearsLine, RunLaw, leaves, handed, handedOut, passes, EqualBytes}
+use Rattle.run.specs.Run.{Edit, runOne, stateAfter, setsAfter, runAll, setsOf, calls, foldCalls}
+use Rattle.run.proofs.Calls.{ended, Rises, call-set, call-folds, call-clears, call-leaves, call-rises, call-handed, passes-after}
+use Rattle.run.proofs.Counts.{named-count}
+use Rattle.run.proofs.Fold.{Kept, kept-lists, kept-fold, kept-step}
 use Rattle.run.proofs.Lifts.{joined-append}
-use Rattle.run.proofs.LightLine.{light-clears}
-use Rattle.run.proofs.LightStep.{light-step}
-use Rattle.run.proofs.LineStep.{line-shape}
-use Rattle.run.proofs.LinksStep.{links-shape}
-use Rattle.run.proofs.Refusals.{low, low-line, low-light, low-links, low-finish}
-use Rattle.run.proofs.Shape.{Shape, law}
 use Rattle.run.proofs.Told.{differ-self}
-
--- ---- one edit
-
--- what the three have in common
-abbrev edited : Edit → Map → Answer Draft
-edited (line a) = stopLineEdit a
-edited (signal a) = lightEdit a
-edited (links a) = linksEdit a
-
-one-call : (e : Edit) (s : State) → runOne e s ≡ call (edited e) s
-unfolding runOne addStopLine addTrafficSignal setRegulatoryLinks
-one-call (line a) s = refl
-one-call (signal a) s = refl
-one-call (links a) s = refl
-
-edit-shape : (e : Edit) (m : Map) (d : Draft) → isMap m ≡ true → edited e m ≡ done d → Shape m d
-edit-shape (line a) m d ok q = line-shape a m d ok q
-edit-shape (signal a) m d ok q = light-step a m d ok q
-edit-shape (links a) m d ok q = links-shape a m d ok q
-
-edit-low : (e : Edit) (m : Map) → low (edited e m) ≡ true
-edit-low (line a) m = low-line a m
-edit-low (signal a) m = low-light a m
-edit-low (links a) m = low-links a m
-
-edit-lifts : (e : Edit) (m : Map) (d : Draft) → edited e m ≡ done d → liftedBy e m (d .map) ≡ true
-unfolding liftedBy
-edit-lifts (line a) m d q = refl
-edit-lifts (signal a) m d q = light-clears a m d q
-edit-lifts (links a) m d q = refl
-
--- ---- one call
-
-record Drafted (e : Edit) (s : State) (o : Outcome) : Type 0 where
-  draft : Draft
-  drawn : edited e (s .map) ≡ done draft
-  end : finish s draft ≡ done o
-
-drafted : (e : Edit) (s : State) (o : Outcome) → runOne e s ≡ done o → Drafted e s o
-drafted e s o q = go (sym (one-call e s) ∙ q)
-  where
-    go : call (edited e) s ≡ done o → Drafted e s o
-    go q = unfold call in
-        let p₁ = past (not (isMap (s .map))) 12 [] _ o q in
-        let p₂ = past (not (listsOk (s .fold) && foldOk s)) 13 [] _ o (p₁ .rest) in
-        let p₃ = went (edited e (s .map)) _ o (p₂ .rest) in
-        record { draft = p₃ .value; drawn = p₃ .first; end = p₃ .rest }
-
--- a call that is handed a good state refuses with 11 at most
-call-low : (e : Edit) (s : State) → isMap (s .map) ≡ true → (listsOk (s .fold) && foldOk s) ≡ true → low (runOne e s) ≡ true
-call-low e s p q = rw (one-call e s) (go (edited e (s .map)) refl (edit-low e (s .map)))
-  where
-    go : (x : Answer Draft) → edited e (s .map) ≡ x → low x ≡ true → low (call (edited e) s) ≡ true
-    go (refused n ds) b h = unfold call in rw (p, q, b) h
-    go (done d) b h = unfold call in rw (p, q, b) (low-finish s d)
-
-low-handed : (e : Edit) (s : State) (x : Answer Outcome) → runOne e s ≡ x → low x ≡ true → wellHanded (record { edit = e; before = s; answer = x }) ≡ true
-unfolding wellHanded
-low-handed e s (refused n ds) q h = let u = ltb-true n 12 h in rw (ne-eqb n 12 (λ z. omega arith), ne-eqb n 13 (λ z. omega arith))
-low-handed e s (done o) q h = refl
-
-call-clears : (e : Edit) (s : State) (x : Answer Outcome) → runOne e s ≡ x → clearsLine (record { edit = e; before = s; answer = x }) ≡ true
-unfolding clearsLine
-call-clears e s (refused n ds) q = refl
-call-clears e s (done o) q =
-    let d = drafted e s o q in
-    subst (λ (t : State). liftedBy e (s .map) (t .map) ≡ true) (sym (finished s (d .draft) o (d .end) .state)) (edit-lifts e (s .map) (d .draft) (d .drawn))
 
 -- ---- the opening
 
@@ -141,8 +63,8 @@ kept-call : (m : Map) (alt : EntityRef → Bool) (e : Edit) (s : State) → Kept
     → Kept m (λ a. alt a || alters (s .map) (stateAfter s x .map) a) (stateAfter s x)
 kept-call m alt e s k (refused n ds) q = kept-as m alt _ s (λ a. rw (alters-self (s .map) a) (sym (or-no (alt a)))) k
 kept-call m alt e s k (done o) q =
-    let d = drafted e s o q in
-    kept-step m alt s (d .draft) o k (law (s .map) (k .map) (d .draft) (edit-shape e (s .map) (d .draft) (k .map) (d .drawn))) (d .end)
+    let d = ended e s o q in
+    kept-step m alt s (d .draft) o k (d .step) (d .end)
 
 kept-run : (m : Map) (es : List Edit) (alt : EntityRef → Bool) (s : State) → Kept m alt s → Kept m (λ a. alt a || altered es s a) (runAll es s)
 unfolding runAll altered
@@ -160,56 +82,35 @@ fold-run (e ∷ es) s = fold-run es (stateAfter s (runOne e s)) ∙ go (runOne e
     go : (x : Answer Outcome) → runOne e s ≡ x → foldOf (stateAfter s x .fold) (setsOf es (stateAfter s x)) ≡ foldOf (s .fold) (setsAfter x ++ setsOf es (stateAfter s x))
     go (refused n ds) q = refl
     go (done o) q =
-        let d = drafted e s o q in
-        let f = finished s (d .draft) o (d .end) in
+        let f = ended e s o q .end in
         ap (λ (c : ChangeSet). foldOf c (setsOf es (o .state))) (ap (λ (t : State). t .fold) (f .state) ∙ ap (foldStep (s .fold)) (sym (f .changes)))
 
--- the set that a call answers is a set file, and the fold call makes of it the fold that the call left
-record Answered (s : State) (o : Outcome) : Type 0 where
-  set : isSet (o .changes) ≡ true
-  folds : foldCall (s .fold) (o .changes) ≡ done (o .state .fold)
-
-answered : (m : Map) (alt : EntityRef → Bool) (e : Edit) (s : State) (o : Outcome) → Kept m alt s → runOne e s ≡ done o → Answered s o
-answered m alt e s o k q =
-    let d = drafted e s o q in
-    let f = finished s (d .draft) o (d .end) in
-    let l = law (s .map) (k .map) (d .draft) (edit-shape e (s .map) (d .draft) (k .map) (d .drawn)) in
-    let h = named-lists (s .map) (d .draft .map) (alters (s .map) (d .draft .map)) (normalize (d .draft .changes)) (k .map) (l .valid (f .stored) (f .ceilings) (f .spent)) (set-named s (d .draft) o l f) in
-    record { set = good (d .draft) f h (l .warned (f .spent)); folds = go (d .draft) f h }
-  where
-    go : (d : Draft) → Finished s d o → listsOk (normalize (d .changes)) ≡ true → foldCall (s .fold) (o .changes) ≡ done (o .state .fold)
-    go d f h = unfold foldCall in rw (f .changes, f .state, kept-lists m alt s k, h, f .fits)
-
-    good : (d : Draft) → Finished s d o → listsOk (normalize (d .changes)) ≡ true → Warned maxWarnings (d .changes .warnings) → isSet (o .changes) ≡ true
-    good d f h w = rw (f .changes) (set-fits (normalize (d .changes)) h (unfold normalize in w))
-
-sets-run : (m : Map) (es : List Edit) (alt : EntityRef → Bool) (s : State) → Kept m alt s → every isSet (setsOf es s) ≡ true
+sets-run : (es : List Edit) (s : State) → every isSet (setsOf es s) ≡ true
 unfolding setsOf every
-sets-run m [] alt s k = refl
-sets-run m (e ∷ es) alt s k = go (runOne e s) refl (sets-run m es (λ a. alt a || alters (s .map) (stateAfter s (runOne e s) .map) a) (stateAfter s (runOne e s)) (kept-call m alt e s k (runOne e s) refl))
+sets-run [] s = refl
+sets-run (e ∷ es) s = go (runOne e s) refl (sets-run es (stateAfter s (runOne e s)))
   where
     go : (x : Answer Outcome) → runOne e s ≡ x → every isSet (setsOf es (stateAfter s x)) ≡ true → every isSet (setsAfter x ++ setsOf es (stateAfter s x)) ≡ true
     go (refused n ds) q h = h
-    go (done o) q h = and-i (isSet (o .changes)) _ (answered m alt e s o k q .set) h
+    go (done o) q h = and-i (isSet (o .changes)) _ (call-set e s o (ended e s o q)) h
 
 -- the fold call, on one set after another
-folded-run : (m : Map) (es : List Edit) (alt : EntityRef → Bool) (s : State) → Kept m alt s → foldCalls (s .fold) (setsOf es s) ≡ done (runAll es s .fold)
+folded-run : (es : List Edit) (s : State) → foldCalls (s .fold) (setsOf es s) ≡ done (runAll es s .fold)
 unfolding runAll setsOf foldCalls
-folded-run m [] alt s k = refl
-folded-run m (e ∷ es) alt s k = go (runOne e s) refl (folded-run m es (λ a. alt a || alters (s .map) (stateAfter s (runOne e s) .map) a) (stateAfter s (runOne e s)) (kept-call m alt e s k (runOne e s) refl))
+folded-run [] s = refl
+folded-run (e ∷ es) s = go (runOne e s) refl (folded-run es (stateAfter s (runOne e s)))
   where
     go : (x : Answer Outcome) → runOne e s ≡ x → foldCalls (stateAfter s x .fold) (setsOf es (stateAfter s x)) ≡ done (runAll es (stateAfter s x) .fold)
         → foldCalls (s .fold) (setsAfter x ++ setsOf es (stateAfter s x)) ≡ done (runAll es (stateAfter s x) .fold)
     go (refused n ds) q h = h
-    go (done o) q h = rw (answered m alt e s o k q .folds) h
+    go (done o) q h = rw (call-folds e s o (ended e s o q)) h
 
-handed-run : (m : Map) (es : List Edit) (alt : EntityRef → Bool) (s : State) → Kept m alt s → every wellHanded (calls es s) ≡ true
+handed-run : (es : List Edit) (s : State) → passes s ≡ true → every wellHanded (calls es s) ≡ true
 unfolding calls every
-handed-run m [] alt s k = refl
-handed-run m (e ∷ es) alt s k =
-    and-i (wellHanded (record { edit = e; before = s; answer = runOne e s })) _
-    (low-handed e s (runOne e s) refl (call-low e s (k .map) (and-i _ _ (kept-lists m alt s k) (kept-fold m alt s k))))
-    (handed-run m es (λ a. alt a || alters (s .map) (stateAfter s (runOne e s) .map) a) (stateAfter s (runOne e s)) (kept-call m alt e s k (runOne e s) refl))
+handed-run [] s ok = refl
+handed-run (e ∷ es) s ok =
+    and-i (wellHanded (record { edit = e; before = s; answer = runOne e s })) _ (call-handed e s ∙ ok)
+    (handed-run es (stateAfter s (runOne e s)) (passes-after e s ok (runOne e s) refl))
 
 lights-run : (es : List Edit) (s : State) → every clearsLine (calls es s) ≡ true
 unfolding calls every
@@ -227,6 +128,10 @@ refused-same xs e s n ds q = run-append xs (e ∷ []) s ∙ go (runAll xs s) q
     go : (t : State) → runOne e t ≡ refused n ds → runAll (e ∷ []) t ≡ t
     go t q = unfold runAll in rw q
 
+kept-passes : (m : Map) (alt : EntityRef → Bool) (s : State) → Kept m alt s → passes s ≡ true
+unfolding passes
+kept-passes m alt s k = and-i _ _ (and-i _ _ (k .map) (kept-lists m alt s k)) (kept-fold m alt s k)
+
 kept-written : (m : Map) (alt : EntityRef → Bool) (s : State) → Kept m alt s → isSet (s .fold) ≡ true
 kept-written m alt s k = set-fits (s .fold) (kept-lists m alt s k) (go (s .fold .warnings) (k .quiet))
   where
@@ -236,39 +141,12 @@ kept-written m alt s k = set-fits (s .fold) (kept-lists m alt s k) (go (s .fold 
 
 -- ---- what a call does not name stays as it was
 
-frame-one : (f g : Option Bytes) → ((isSome g && not (isSome f)) || (isSome f && isSome g && differ f g) || (isSome f && not (isSome g)) || sameForm f g) ≡ true
-unfolding differ sameForm
-frame-one none none = refl
-frame-one none (some y) = refl
-frame-one (some x) none = refl
-frame-one (some x) (some y) = go (sameList x y)
-  where
-    go : (b : Bool) → (not b || false || b) ≡ true
-    go true = refl
-    go false = refl
-
-named-frame : (m n : Map) (c : ChangeSet) (a : EntityRef) → Named m n (alters m n) c → (names c a || sameForm (formOf m a) (formOf n a)) ≡ true
-unfolding names alters
-named-frame m n c a k = rw (k .created a, k .modified a, k .deleted a, has-form m a, has-form n a) (frame-one (formOf m a) (formOf n a))
-
-call-frame : (m : Map) (alt : EntityRef → Bool) (e : Edit) (s : State) (a : EntityRef) → Kept m alt s → (x : Answer Outcome) → runOne e s ≡ x → leaves a (record { edit = e; before = s; answer = x }) ≡ true
-unfolding leaves
-call-frame m alt e s a k (refused n ds) q = refl
-call-frame m alt e s a k (done o) q =
-    let d = drafted e s o q in
-    let f = finished s (d .draft) o (d .end) in
-    let l = law (s .map) (k .map) (d .draft) (edit-shape e (s .map) (d .draft) (k .map) (d .drawn)) in
-    go (d .draft) f (set-named s (d .draft) o l f)
-  where
-    go : (d : Draft) → Finished s d o → Named (s .map) (d .map) (alters (s .map) (d .map)) (normalize (d .changes)) → (names (o .changes) a || sameForm (formOf (s .map) a) (formOf (o .state .map) a)) ≡ true
-    go d f n = rw (f .changes, f .state) (named-frame (s .map) (d .map) (normalize (d .changes)) a n)
-
-frame-run : (m : Map) (es : List Edit) (alt : EntityRef → Bool) (s : State) (a : EntityRef) → Kept m alt s → every (leaves a) (calls es s) ≡ true
+frame-run : (es : List Edit) (s : State) (a : EntityRef) → every (leaves a) (calls es s) ≡ true
 unfolding calls every
-frame-run m [] alt s a k = refl
-frame-run m (e ∷ es) alt s a k =
-    and-i (leaves a (record { edit = e; before = s; answer = runOne e s })) _ (call-frame m alt e s a k (runOne e s) refl)
-    (frame-run m es (λ a. alt a || alters (s .map) (stateAfter s (runOne e s) .map) a) (stateAfter s (runOne e s)) a (kept-call m alt e s k (runOne e s) refl))
+frame-run [] s a = refl
+frame-run (e ∷ es) s a =
+    and-i (leaves a (record { edit = e; before = s; answer = runOne e s })) _ (call-leaves e s a (runOne e s) refl)
+    (frame-run es (stateAfter s (runOne e s)) a)
 
 -- ---- the numbers that are handed out
 
@@ -293,27 +171,11 @@ unfolding rising twice
 rising-apart l h [] r = refl
 rising-apart l h (x ∷ xs) r = rw (above-off x (suc x) h xs (omega arith) (search parts)) (rising-apart (suc x) h xs (search parts))
 
--- the numbers of one call, and those of the rest of the run
-record Rises (s t : State) (ns : List ℕ) : Type 0 where
-  grows : s .map .next ≤ t .map .next
-  rise : rising (λ n. n) (s .map .next) (t .map .next) ns ≡ true
-
-call-rises : (m : Map) (alt : EntityRef → Bool) (e : Edit) (s : State) → Kept m alt s → (x : Answer Outcome) → runOne e s ≡ x → Rises s (stateAfter s x) (joined handed (setsAfter x))
-unfolding joined
-call-rises m alt e s k (refused n ds) q = record { grows = omega arith; rise = unfold rising in refl }
-call-rises m alt e s k (done o) q =
-    let d = drafted e s o q in
-    let l = law (s .map) (k .map) (d .draft) (edit-shape e (s .map) (d .draft) (k .map) (d .drawn)) in
-    go (d .draft) (finished s (d .draft) o (d .end)) (l .later) (l .rise)
-  where
-    go : (d : Draft) → Finished s d o → s .map .next ≤ d .map .next → rising (λ n. n) (s .map .next) (d .map .next) (handed (normalize (d .changes))) ≡ true → Rises s (o .state) (handed (o .changes) ++ [])
-    go d f u v = rw (f .changes, f .state, append-nil) (record { grows = u; rise = v })
-
-rise-run : (m : Map) (es : List Edit) (alt : EntityRef → Bool) (s : State) → Kept m alt s → Rises s (runAll es s) (handedOut es s)
+rise-run : (es : List Edit) (s : State) → Rises s (runAll es s) (handedOut es s)
 unfolding handedOut runAll setsOf
-rise-run m [] alt s k = record { grows = omega arith; rise = unfold rising joined in refl }
-rise-run m (e ∷ es) alt s k =
-    go (runOne e s) (call-rises m alt e s k (runOne e s) refl) (rise-run m es (λ a. alt a || alters (s .map) (stateAfter s (runOne e s) .map) a) (stateAfter s (runOne e s)) (kept-call m alt e s k (runOne e s) refl))
+rise-run [] s = record { grows = omega arith; rise = unfold rising joined in refl }
+rise-run (e ∷ es) s =
+    go (runOne e s) (call-rises e s (runOne e s) refl) (rise-run es (stateAfter s (runOne e s)))
   where
     go : (x : Answer Outcome) → Rises s (stateAfter s x) (joined handed (setsAfter x)) → Rises (stateAfter s x) (runAll es (stateAfter s x)) (joined handed (setsOf es (stateAfter s x)))
         → Rises s (runAll es (stateAfter s x)) (joined handed (setsAfter x ++ setsOf es (stateAfter s x)))
@@ -330,23 +192,44 @@ rise-run m (e ∷ es) alt s k =
 pub run-law : (m : Map) → isMap m ≡ true → (es : List Edit) → RunLaw m es (runAll es (opening m))
 run-law m ok es =
     let k = kept-run m es (λ a. false) (opening m) (kept-opening m ok) in
-    let r = rise-run m es (λ a. false) (opening m) (kept-opening m ok) in
+    let r = rise-run es (opening m) in
     record {
       fold = fold-run es (opening m);
       tally = k .tally;
-      folded = folded-run m es (λ a. false) (opening m) (kept-opening m ok);
-      sets = sets-run m es (λ a. false) (opening m) (kept-opening m ok);
+      folded = folded-run es (opening m);
+      sets = sets-run es (opening m);
       bytes = ap (changeFile .write) (fold-run es (opening m));
       written = kept-written m _ (runAll es (opening m)) k;
       created = k .named .created;
       deleted = k .named .deleted;
       modified = k .named .modified;
       count = named-count m (runAll es (opening m) .map) _ (runAll es (opening m) .fold) ok (k .map) (k .named);
-      valid = and-i _ _ (and-i _ _ (k .map) (kept-lists m _ (runAll es (opening m)) k)) (kept-fold m _ (runAll es (opening m)) k);
-      wellHandedOver = handed-run m es (λ a. false) (opening m) (kept-opening m ok);
+      valid = unfold passes in kept-passes m _ (runAll es (opening m)) k;
+      wellHandedOver = handed-run es (opening m) (kept-passes m _ (opening m) (kept-opening m ok));
       refusals = λ before after e n ds q r. refused-same before e (opening m) n ds r;
-      frame = λ a. frame-run m es (λ a. false) (opening m) a (kept-opening m ok);
+      frame = frame-run es (opening m);
       rise = r .rise;
       distinct = rising-apart (m .next) (runAll es (opening m) .map .next) (handedOut es (opening m)) (r .rise);
       lights = lights-run es (opening m);
     }
+
+-- ---- beside the law
+
+-- folds of any two runs: equal lists have equal bytes, and equal bytes are of equal folds
+pub equal-lists-equal-bytes : (m n : Map) (es fs : List Edit) (s t : State) → RunLaw m es s → RunLaw n fs t → EqualBytes (s .fold) (t .fold)
+equal-lists-equal-bytes m n es fs s t l k = record {
+  bytes = λ p q r.
+      let w = silent (s .fold) (quiet m es s l) ∙ sym (silent (t .fold) (quiet n fs t k)) in
+      ap (changeFile .write) (λ i. record { created = p i; modified = q i; deleted = r i; warnings = w i });
+  folds = unfold isSet in same-form changeFile (s .fold) (t .fold) (l .written) (k .written);
+}
+  where
+    quiet : (m : Map) (es : List Edit) (s : State) → RunLaw m es s → noEntries (s .fold .warnings) ≡ true
+    quiet m es s l = unfold foldOk in let h = l .valid in search parts depth 14
+
+    silent : (c : ChangeSet) → noEntries (c .warnings) ≡ true → c .warnings ≡ []
+    silent c h = none-left (c .warnings) h
+      where
+        none-left : (ws : List Warning) → noEntries ws ≡ true → ws ≡ []
+        none-left [] q = refl
+        none-left (w ∷ ws) q = unfold noEntries in clash q refl

@@ -16,7 +16,7 @@ use Rattle.map.specs.MapFile.{isMap}
 use Rattle.map.specs.Entity.{EntityRef, listed, has, formOf, recordCount}
 use Rattle.changes.specs.ChangeSet.{ChangeSet, noChanges, foldOf, tallyOf}
 use Rattle.changes.specs.ChangeFile.{changeFile, isSet, listsOk}
-use Rattle.changes.specs.Running.{State, opening, foldOk}
+use Rattle.changes.specs.Running.{State, opening, foldOk, foldCall}
 use Rattle.edit.specs.declared.StopLineChoice.{StopLineChoice}
 use Rattle.edit.specs.declared.StopLineChoice.the-variants.{Automatic, Existing, New, NoLine}
 use Rattle.edit.specs.Edit.{Outcome}
@@ -178,6 +178,46 @@ pub record RunLaw (m : Map) (es : List Edit) (s : State) : Type 0 where
   -- a light that took line s leaves no marking or stop-sign rule on s that lists a lane of its call
   pub lights : every clearsLine (calls es (opening m)) ≡ true
 
+-- ---- beside the law: one call on any state, whether or not a run from an opening led there
+
+-- it passes 12 and 13
+unfoldable pub passes : State → Bool
+passes s = isMap (s .map) && listsOk (s .fold) && foldOk s
+
+-- of the call e, accepted on the state s with the outcome o
+pub record Accepted (e : Edit) (s : State) (o : Outcome) : Type 0 where
+  -- its set is a change set, the fold call on it gives the fold that the call leaves, and the tally is that fold's
+  pub set : isSet (o .changes) ≡ true
+  pub folded : foldCall (s .fold) (o .changes) ≡ done (o .state .fold)
+  pub tally : o .state .tally ≡ tallyOf (o .state .fold)
+  -- the set names exactly what the call created, deleted and altered
+  pub created : (a : EntityRef) → listed (o .changes .created) a ≡ (has (o .state .map) a && not (has (s .map) a))
+  pub deleted : (a : EntityRef) → listed (o .changes .deleted) a ≡ (has (s .map) a && not (has (o .state .map) a))
+  pub modified : (a : EntityRef) → listed (o .changes .modified) a ≡ alters (s .map) (o .state .map) a
+  -- a record that it does not name is as it was, in its written form
+  pub frame : (a : EntityRef) → names (o .changes) a ≡ false → sameForm (formOf (s .map) a) (formOf (o .state .map) a) ≡ true
+  pub count : recordCount (o .state .map) + length (o .changes .deleted) ≡ recordCount (s .map) + length (o .changes .created)
+  -- the numbers handed out rise from the next number before the call on, below the next number after it
+  pub rise : rising (λ n. n) (s .map .next) (o .state .map .next) (handed (o .changes)) ≡ true
+  -- a light has left no stop rule of its lanes on its line
+  pub lights : liftedBy e (s .map) (o .state .map) ≡ true
+  -- the state that it leaves passes, so that the next call takes it
+  pub valid : passes (o .state) ≡ true
+
+pub record CallLaw (e : Edit) (s : State) : Type 0 where
+  pub accepted : (o : Outcome) → runOne e s ≡ done o → Accepted e s o
+  -- refused, it leaves the state as it was
+  pub refusal : (n : ℕ) (ds : List ℕ) → runOne e s ≡ refused n ds → stateAfter s (runOne e s) ≡ s
+  -- it is refused for the map or the fold just where the state does not pass
+  pub wellHandedOver : wellHanded (record { edit = e; before = s; answer = runOne e s }) ≡ passes s
+
+-- ---- beside the law: the bytes of two folds, whatever runs they came from
+
+-- equal lists have equal bytes, and equal bytes are of equal folds
+pub record EqualBytes (f g : ChangeSet) : Type 0 where
+  pub bytes : f .created ≡ g .created → f .modified ≡ g .modified → f .deleted ≡ g .deleted → changeFile .write f ≡ changeFile .write g
+  pub folds : changeFile .write f ≡ changeFile .write g → f ≡ g
+
 unfoldable pub open-run : Unit {0}
-unfolding open-all sameForm differ alters altered names leaves handed handedOut ownLine lineOnLane lineOfRule groupsLine firstLanesLine chosenLine lightsLine meets haltLine isLine noStop liftedBy clearsLine wellHanded
+unfolding open-all sameForm differ alters altered names leaves handed handedOut ownLine lineOnLane lineOfRule groupsLine firstLanesLine chosenLine lightsLine meets haltLine isLine noStop liftedBy clearsLine wellHanded passes
 open-run = tt
