@@ -7,6 +7,6 @@ fn main() {
     println!("cargo:rustc-link-lib=static=edit_export");
     println!("cargo:rustc-link-lib=static=run_export");
     println!("cargo:rustc-link-lib=static=files_export");
-    println!("cargo:rustc-link-lib=static=validity_export");
+    println!("cargo:rustc-link-lib=static=table_export");
     println!("cargo:rerun-if-changed=../target/staticlib");
 }

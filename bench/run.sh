@@ -8,7 +8,7 @@
 # requests (random requests with the Rust's answers, for target/bin/geometry_replay FILE).
 set -eu
 cd "$(dirname "$0")/.."
-for crate in root geometry_export validity_export edit_export run_export files_export; do
+for crate in root geometry_export table_export edit_export run_export files_export; do
     rt staticlib "$crate" >/dev/null
 done
 cd bench

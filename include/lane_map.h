@@ -7,6 +7,7 @@
 #ifndef LANE_MAP_H
 #define LANE_MAP_H
 
+#include <stdbool.h>
 #include <stddef.h>
 #include <stdint.h>
 
@@ -119,6 +120,15 @@ uint64_t lane_map_write(
 /* The change set file of a set or of a running fold. 13: it is no set; 14: the file is longer than the buffer. */
 uint64_t lane_map_write_changes(
     const uint64_t *set, size_t set_len, uint8_t *buffer, size_t buffer_len, uint64_t size[1]);
+
+/* Tables (libtable_export.a). */
+
+/* Whether the two slices are the tables of a map: the test that 12 stands for. 1 for yes, 0 for no; slices of other lengths are no map. */
+bool lane_map_is_map(const uint64_t *words, size_t words_len, const double *coords, size_t coords_len);
+
+/* A change set taken into a fold, whose warnings are dropped. 13: either is of another length, or its lists are not those of a set;
+   10: a list would have more than 512 entries. Refused, the fold is as it was. */
+uint64_t lane_map_fold(uint64_t *fold, size_t fold_len, const uint64_t *set, size_t set_len);
 
 #ifdef __cplusplus
 }

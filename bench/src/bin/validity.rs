@@ -8,7 +8,7 @@ use std::hint::black_box;
 
 mod c {
     unsafe extern "C" {
-        pub fn map_is_map(
+        pub fn lane_map_is_map(
             words: *const u64,
             words_len: usize,
             coords: *const f64,
@@ -31,7 +31,7 @@ const COORD_WIDTHS: [usize; 6] = [192, 192, 192, 205, 576, 192];
 impl Tables {
     fn is_map(&self) -> bool {
         unsafe {
-            c::map_is_map(
+            c::lane_map_is_map(
                 self.words.as_ptr(),
                 self.words.len(),
                 self.coords.as_ptr(),

@@ -11,7 +11,7 @@ use Rattle.geometry.specs.declared.Point3.{Point3}
 use Rattle.geometry.specs.Double.{whole, f0, f1}
 use Rattle.geometry.specs.Point.{at2, at3}
 use Rattle.geometry.specs.Polyline.{Polyline, polylineLength, directionAt, centerline, open-polyline}
-use Rattle.geometry.specs.Calls.{pointAtCall, lerpCall, nearestPointCall, resampleCountCall, centerlineCall, open-geometry-calls}
+use Rattle.geometry.specs.Calls.{pointAtCall, lerpCall, nearestPointCall, resampleCountCall, centerlineCall, xyCall, scale2Call, normalizedCall, norm3Call, open-geometry-calls, open-vector-calls}
 
 abbrev p3 : ℕ → ℕ → ℕ → Point3
 p3 a b c = at3 (whole a) (whole b) (whole c)
@@ -45,3 +45,10 @@ calls : numberOf (pointAtCall (whole (2 ^ 26 + 1) ∷ f0 ∷ f0 ∷ []) nan) ∷
     ≡ 9 ∷ 10 ∷ 4 ∷ 0 ∷ 9 ∷ 9 ∷ 10 ∷ 10 ∷ 4 ∷ []
 unfolding open-geometry-calls numberOf
 calls = refl
+
+-- vectors too: a factor comes after the components, and a vector that has no direction is no refusal
+vector-calls : numberOf (scale2Call (at2 nan f0) nan) ∷ numberOf (scale2Call (at2 f1 f0) nan) ∷ numberOf (scale2Call (at2 f1 f0) (whole (2 ^ 26 + 1)))
+    ∷ numberOf (xyCall (at3 f0 f0 (inf true))) ∷ numberOf (norm3Call (p3 0 0 (2 ^ 26 + 1))) ∷ numberOf (normalizedCall (at2 f0 f0)) ∷ []
+    ≡ 9 ∷ 4 ∷ 0 ∷ 9 ∷ 9 ∷ 0 ∷ []
+unfolding open-vector-calls numberOf
+vector-calls = refl

@@ -13,7 +13,7 @@ use Rattle.geometry.specs.declared.Point3.{Point3}
 use Rattle.geometry.specs.declared.Location.{Location}
 use Rattle.geometry.specs.declared.NearestPoint.{NearestPoint}
 use Rattle.geometry.specs.Double.{isFinite, onMap}
-use Rattle.geometry.specs.Point.{pointOnMap, point2OnMap, distance2, distance3, lerp, projectOnSegment}
+use Rattle.geometry.specs.Point.{pointOnMap, point2OnMap, xy, sub2, scale2, dot, cross, norm2, distance2, normalized, perp, projectOnSegment, add3, sub3, scale3, norm3, distance3, lerp}
 use Rattle.geometry.specs.Polyline.{Polyline, polylineOf, polylineLength, isValid, stations, reversed, locate, pointAt, pointAtFraction, directionAt, nearestPoint, resampleCount, centerline, open-polyline}
 
 -- every coordinate is there, finite and at most 2 ^ 26 in size
@@ -110,6 +110,54 @@ lerpCall a b t = do
 unfoldable pub projectOnSegmentCall : Point2 → Point2 → Point2 → Answer Float
 projectOnSegmentCall p a b = refuseOffMap (point2OnMap p && point2OnMap a && point2OnMap b) >> done (projectOnSegment p a b)
 
+-- ---- vectors: a component is a coordinate, and a factor a fraction
+
+unfoldable pub xyCall : Point3 → Answer Point2
+xyCall p = refuseOffMap (pointOnMap p) >> done (xy p)
+
+unfoldable pub sub2Call : Point2 → Point2 → Answer Point2
+sub2Call a b = refuseOffMap (point2OnMap a && point2OnMap b) >> done (sub2 a b)
+
+unfoldable pub scale2Call : Point2 → Float → Answer Point2
+scale2Call a t = do
+  refuseOffMap (point2OnMap a)
+  refuseMeasure t
+  done (scale2 a t)
+
+unfoldable pub dotCall : Point2 → Point2 → Answer Float
+dotCall a b = refuseOffMap (point2OnMap a && point2OnMap b) >> done (dot a b)
+
+unfoldable pub crossCall : Point2 → Point2 → Answer Float
+crossCall a b = refuseOffMap (point2OnMap a && point2OnMap b) >> done (cross a b)
+
+unfoldable pub norm2Call : Point2 → Answer Float
+norm2Call a = refuseOffMap (point2OnMap a) >> done (norm2 a)
+
+unfoldable pub normalizedCall : Point2 → Answer (Option Point2)
+normalizedCall a = refuseOffMap (point2OnMap a) >> done (normalized a)
+
+unfoldable pub perpCall : Point2 → Answer Point2
+perpCall a = refuseOffMap (point2OnMap a) >> done (perp a)
+
+unfoldable pub add3Call : Point3 → Point3 → Answer Point3
+add3Call a b = refuseOffMap (pointOnMap a && pointOnMap b) >> done (add3 a b)
+
+unfoldable pub sub3Call : Point3 → Point3 → Answer Point3
+sub3Call a b = refuseOffMap (pointOnMap a && pointOnMap b) >> done (sub3 a b)
+
+unfoldable pub scale3Call : Point3 → Float → Answer Point3
+scale3Call a t = do
+  refuseOffMap (pointOnMap a)
+  refuseMeasure t
+  done (scale3 a t)
+
+unfoldable pub norm3Call : Point3 → Answer Float
+norm3Call a = refuseOffMap (pointOnMap a) >> done (norm3 a)
+
 unfoldable pub open-geometry-calls : Unit {0}
 unfolding open-polyline coordsOnMap checkLine lengthCall isValidCall stationsCall reversedCall locateCall pointAtCall pointAtFractionCall directionAtCall nearestPointCall resampleCountCall centerlineCall distance2Call distance3Call lerpCall projectOnSegmentCall
 open-geometry-calls = tt
+
+unfoldable pub open-vector-calls : Unit {0}
+unfolding open-geometry-calls xyCall sub2Call scale2Call dotCall crossCall norm2Call normalizedCall perpCall add3Call sub3Call scale3Call norm3Call
+open-vector-calls = tt

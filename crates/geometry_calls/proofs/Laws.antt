@@ -17,6 +17,9 @@ use Rattle.geometry.specs.Double.{onMap}
 use Rattle.geometry.specs.Polyline.{polylineOf}
 use Rattle.geometry.specs.Calls.{coordsOnMap, refuseOffMap, refuseMany, refuseMeasure, checkLine}
 use Rattle.polyline.proofs.Lines.{length-points}
+use Rattle.geometry_calls.specs.declared.Tested.{Tested}
+use Rattle.geometry_calls.specs.declared.Tested.the-variants.{Passed, Refused}
+use Rattle.geometry_calls.specs.Answers.{tested}
 use Rattle.geometry_calls.specs.Tests.{checkCount, checkLineAt}
 
 -- ---- coordinates
@@ -61,6 +64,21 @@ module _ {A : Type 0} where
   pub joined : (a b : Answer (Unit {0})) (x : Answer A) → ((a >> b) >> x) ≡ (a >> (b >> x))
   joined (refused n ds) b x = refl
   joined (done u) b x = refl
+
+  -- what follows a test of the code, or two
+  module _ (t : Tested) (a : Answer (Unit {0})) (x : Answer A) where
+    pub test-stands : (r : Refusal) → tested t ≡ a → t ≡ Refused r → refusedAs r ≡ (a >> x)
+    test-stands r h e = stands a x r (sym (ap tested e) ∙ h)
+
+    pub test-passes : (y : Answer A) → tested t ≡ a → t ≡ Passed → y ≡ x → y ≡ (a >> x)
+    test-passes y h e f = passes a x y (sym (ap tested e) ∙ h) f
+
+  module _ (s t : Tested) (a b : Answer (Unit {0})) (x : Answer A) where
+    pub both-stand : (r : Refusal) → tested s ≡ a → tested t ≡ (tested s >> b) → t ≡ Refused r → refusedAs r ≡ (a >> (b >> x))
+    both-stand r g h e = test-stands t (a >> b) x r (rw g at h) e ∙ joined a b x
+
+    pub both-pass : (y : Answer A) → tested s ≡ a → tested t ≡ (tested s >> b) → t ≡ Passed → y ≡ x → y ≡ (a >> (b >> x))
+    both-pass y g h e f = test-passes t (a >> b) x y (rw g at h) e f ∙ joined a b x
 
   -- after two tests
   module _ (x : Answer A) where
@@ -110,3 +128,7 @@ line-few cs e = omega (arith, length-points cs, many-few (length (polylineOf cs)
 pub line-is : (cs : List Float) → checkCount (coordsOnMap cs) (length cs / 3) ≡ checkLine cs
 unfolding checkCount checkLine
 line-is cs = rw (length-points cs)
+
+pub ruleset calls = (test-stands, test-passes)
+
+pub ruleset measured-calls = (both-stand, both-pass)

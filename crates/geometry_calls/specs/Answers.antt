@@ -17,6 +17,8 @@ use Rattle.geometry_calls.specs.declared.NumberAnswer.{NumberAnswer}
 use Rattle.geometry_calls.specs.declared.NumberAnswer.the-variants as n
 use Rattle.geometry_calls.specs.declared.TruthAnswer.{TruthAnswer}
 use Rattle.geometry_calls.specs.declared.TruthAnswer.the-variants as b
+use Rattle.geometry_calls.specs.declared.PlaneAnswer.{PlaneAnswer}
+use Rattle.geometry_calls.specs.declared.PlaneAnswer.the-variants as f
 use Rattle.geometry_calls.specs.declared.PointAnswer.{PointAnswer}
 use Rattle.geometry_calls.specs.declared.PointAnswer.the-variants as p
 use Rattle.geometry_calls.specs.declared.LocationAnswer.{LocationAnswer}
@@ -41,6 +43,10 @@ numberAnswer (n.Number x) = done x
 abbrev pub truthAnswer : TruthAnswer → Answer Bool
 truthAnswer (b.Refused r) = refusedAs r
 truthAnswer (b.Truth x) = done x
+
+abbrev pub planeAnswer : PlaneAnswer → Answer Point2
+planeAnswer (f.Refused r) = refusedAs r
+planeAnswer (f.Point x) = done x
 
 abbrev pub pointAnswer : PointAnswer → Answer Point3
 pointAnswer (p.Refused r) = refusedAs r

@@ -14,6 +14,9 @@ use Rattle.geometry.specs.Calls.{coordsOnMap, refuseOffMap, refuseMany, refuseM
 unfoldable pub checkCount : Bool → ℕ → Answer (Unit {0})
 checkCount ok n = refuseOffMap ok >> refuseMany n
 
--- 9 where the first test fails, then 4 for a measure
+-- what an earlier test refuses, then 4 for a measure
+abbrev pub thenMeasure : Answer (Unit {0}) → Float → Answer (Unit {0})
+thenMeasure a s = a >> refuseMeasure s
+
 unfoldable pub checkLineAt : List Float → Float → Answer (Unit {0})
-checkLineAt cs s = checkLine cs >> refuseMeasure s
+checkLineAt cs s = thenMeasure (checkLine cs) s

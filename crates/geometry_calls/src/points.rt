@@ -5,7 +5,6 @@ use crate::Tested;
 use crate::tests;
 use geometry::Point2;
 use geometry::Point3;
-use geometry::point::on_map;
 use geometry::point::on_map2;
 ghost use mathlib.Core.Path.{_≡_};
 ghost use Rattle.geometry.specs.Calls.{distance2Call, distance3Call, lerpCall, projectOnSegmentCall};
@@ -14,7 +13,7 @@ ghost use Rattle.geometry_calls.specs.Answers.{numberAnswer, pointAnswer
 pub fn distance2(a: Point2, b: Point2) -> NumberAnswer
     ensures { λ r. ⌜ numberAnswer r ≡ distance2Call a b ⌝ }
 {
-    match tests::off_map(tests::both(on_map2(a), on_map2(b))) {
+    match tests::plane_pair(a, b) {
         Tested::Refused(r) => NumberAnswer::Refused(r),
         Tested::Passed => NumberAnswer::Number(geometry::point::distance2(a, b)),
     }
@@ -23,7 +22,7 @@ pub fn distance2(a: Point2, b: Point2) -> NumberAnswer
 pub fn distance3(a: Point3, b: Point3) -> NumberAnswer
     ensures { λ r. ⌜ numberAnswer r ≡ distance3Call a b ⌝ }
 {
-    match tests::off_map(tests::both(on_map(a), on_map(b))) {
+    match tests::space_pair(a, b) {
         Tested::Refused(r) => NumberAnswer::Refused(r),
         Tested::Passed => NumberAnswer::Number(geometry::point::distance3(a, b)),
     }
@@ -32,12 +31,9 @@ pub fn distance3(a: Point3, b: Point3) -> NumberAnswer
 pub fn lerp(a: Point3, b: Point3, t: f64) -> PointAnswer
     ensures { λ r. ⌜ pointAnswer r ≡ lerpCall a b t ⌝ }
 {
-    match tests::off_map(tests::both(on_map(a), on_map(b))) {
+    match tests::then_measure(tests::space_pair(a, b), t) {
         Tested::Refused(r) => PointAnswer::Refused(r),
-        Tested::Passed => match tests::measure(t) {
-            Tested::Refused(r) => PointAnswer::Refused(r),
-            Tested::Passed => PointAnswer::Point(geometry::point::lerp(a, b, t)),
-        },
+        Tested::Passed => PointAnswer::Point(geometry::point::lerp(a, b, t)),
     }
 }
 

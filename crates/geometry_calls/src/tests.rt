@@ -1,5 +1,7 @@
 // What is refused, in order.
 use crate::Tested;
+use geometry::Point2;
+use geometry::Point3;
 use geometry::double::is_finite;
 use geometry::double::on_map;
 use refusal::Refusal;
@@ -7,10 +9,10 @@ ghost use mathlib.Core.Path.{_≡_};
 ghost use mathlib.Core.Bool.{_&&_};
 ghost use Prim.Native.Nat.{_/_, max};
 ghost use lib.ListN.{length};
-ghost use Rattle.geometry.specs.Polyline.{polylineOf};
+ghost use Rattle.geometry.specs.Point.{pointOnMap, point2OnMap};
 ghost use Rattle.geometry.specs.Calls.{coordsOnMap, refuseOffMap, refuseMany, refuseMeasure, checkLine};
 ghost use Rattle.geometry_calls.specs.Answers.{tested};
-ghost use Rattle.geometry_calls.specs.Tests.{checkCount, checkLineAt};
+ghost use Rattle.geometry_calls.specs.Tests.{checkCount, thenMeasure, checkLineAt};
 
 // Every coordinate is there, finite and at most 2 ^ 26 in size.
 pub fn coords_on_map(cs: &[f64]) -> bool
@@ -37,6 +39,30 @@ pub fn off_map(ok: bool) -> Tested
     } else {
         Tested::Refused(Refusal::OffTheMap)
     }
+}
+
+pub fn plane(a: Point2) -> Tested
+    ensures { λ r. ⌜ tested r ≡ refuseOffMap (point2OnMap a) ⌝ }
+{
+    off_map(geometry::point::on_map2(a))
+}
+
+pub fn plane_pair(a: Point2, b: Point2) -> Tested
+    ensures { λ r. ⌜ tested r ≡ refuseOffMap (point2OnMap a && point2OnMap b) ⌝ }
+{
+    off_map(both(geometry::point::on_map2(a), geometry::point::on_map2(b)))
+}
+
+pub fn space(a: Point3) -> Tested
+    ensures { λ r. ⌜ tested r ≡ refuseOffMap (pointOnMap a) ⌝ }
+{
+    off_map(geometry::point::on_map(a))
+}
+
+pub fn space_pair(a: Point3, b: Point3) -> Tested
+    ensures { λ r. ⌜ tested r ≡ refuseOffMap (pointOnMap a && pointOnMap b) ⌝ }
+{
+    off_map(both(geometry::point::on_map(a), geometry::point::on_map(b)))
 }
 
 // 9 where a coordinate is off the map, then 10 for more than 64 points.
@@ -68,13 +94,20 @@ pub fn measure(s: f64) -> Tested
     }
 }
 
-pub fn line_at(cs: &[f64], s: f64) -> Tested
-    ensures { λ r. ⌜ tested r ≡ checkLineAt (now (cs .entry)) s ⌝ }
+// What an earlier test refused, then 4 for a measure.
+pub fn then_measure(t: Tested, s: f64) -> Tested
+    ensures { λ r. ⌜ tested r ≡ thenMeasure (tested t) s ⌝ }
 {
-    match line(cs) {
+    match t {
         Tested::Refused(r) => Tested::Refused(r),
         Tested::Passed => measure(s),
     }
+}
+
+pub fn line_at(cs: &[f64], s: f64) -> Tested
+    ensures { λ r. ⌜ tested r ≡ checkLineAt (now (cs .entry)) s ⌝ }
+{
+    then_measure(line(cs), s)
 }
 
 // ---- small parts of the tests

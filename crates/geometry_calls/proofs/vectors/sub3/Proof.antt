@@ -1,0 +1,30 @@
+-- `geometry_calls::vectors::sub3` meets its contract. Assumes nothing.
+use Rattle.geometry_calls.proofs.Laws.{calls}
+use Rattle.geometry.specs.Calls.{sub3Call}
+use borrow.Author.Needs.{needs}
+use Rattle.geometry_calls.proofs.vectors.sub3.Statement.{statement}
+use Rattle.geometry_calls.proofs.vectors.sub3.Tie as tie
+
+space-pair-requires : tie.Need-space-pair-requires
+space-pair-requires c κs = search needs
+
+enum-known-r : tie.Need-enum-known-r
+enum-known-r c = search needs
+
+enum-told : tie.Need-enum-told
+enum-told c = search needs
+
+sub3-requires : tie.Need-sub3-requires
+sub3-requires c κs = search needs
+
+returns : tie.Need-returns
+unfolding sub3Call
+returns c = search (needs, calls)
+
+returns-2 : tie.Need-returns-2
+unfolding sub3Call
+returns-2 c = search (needs, calls)
+
+pub sub3-spec : {M : Type 1} → statement M
+sub3-spec =
+    tie.close (tie.spec space-pair-requires enum-known-r enum-told sub3-requires returns returns-2)

@@ -1,0 +1,1 @@
+// What a function for other languages tells of an answer: definitions, and their laws.
