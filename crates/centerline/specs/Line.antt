@@ -5,11 +5,11 @@ use mathlib.Core.Bool.{cond}
 use mathlib.Core.List.{List}
 use mathlib.Core.Option.{Option, none, some}
 use lib.Dec.{eqb}
-use lib.ListN.{length, getD, take}
+use lib.ListN.{length, getD, take, replicate}
 use lib.Ieee.{Float, nan}
 use Rattle.rows.specs.Lists.{listTo}
 use Rattle.geometry.specs.declared.Location.{Location}
-use Rattle.geometry.specs.Double.{half}
+use Rattle.geometry.specs.Double.{f0, half}
 use Rattle.geometry.specs.Point.{lerp}
 use Rattle.geometry.specs.Polyline.{Polyline, pointIn, segmentLength, lengthTo, reach, locate}
 use Rattle.centerline.specs.declared.Line.{Line}
@@ -22,6 +22,11 @@ pointsOf l = listTo (pointIn (l .coords)) (l .count)
 -- a line without points stands for none
 unfoldable pub lineOption : Line → Option Polyline
 lineOption l = cond (eqb (l .count) 0) none (some (pointsOf l))
+
+-- no points, and every coordinate 0
+pub record Empty (l : Line) : Type 0 where
+  pub count : l .count ≡ 0
+  pub coords : l .coords ≡ replicate 192 f0
 
 unfoldable pub stationsOf : Stations → List Float
 stationsOf s = take (s .count) (s .values)

@@ -2,7 +2,7 @@
 //
 // The inner functions ask that a polyline has at most 64 points, which an array here holds.
 
-ghost use mathlib.Core.Path.{_≡_};
+ghost use Rattle.centerline.specs.Line.{Empty};
 
 pub mod measure; // measure.rt: the length up to each point
 pub mod reversed; // reversed.rt: the other way round
@@ -23,7 +23,7 @@ pub struct Stations {
 
 // A line without points.
 pub fn empty() -> Line
-    ensures { λ r. ⌜ r .count ≡ 0 ⌝ }
+    ensures { λ r. ⌜ Empty r ⌝ }
 {
     Line {
         coords: [0.0; 192],

@@ -32,13 +32,13 @@ empty-requires : tie.Need-empty-requires
 empty-requires c κs = search needs
 
 returns : tie.Need-returns
-returns c = no-line _ (c .empty .ensures) ∙ center-left _ _ (length-points (c .before .before .before .before .args .left .now) ∙ c .before .if1 .taken)
+returns c = no-line _ (c .empty .ensures .count) ∙ center-left _ _ (length-points (c .before .before .before .before .args .left .now) ∙ c .before .if1 .taken)
 
 empty-requires-2 : tie.Need-empty-requires-2
 empty-requires-2 c κs = search needs
 
 returns-2 : tie.Need-returns-2
-returns-2 c = no-line _ (c .empty2 .ensures) ∙ center-right _ _ (length-points (c .before .before .before .before .before .args .right .now) ∙ c .before .if2 .taken)
+returns-2 c = no-line _ (c .empty2 .ensures .count) ∙ center-right _ _ (length-points (c .before .before .before .before .before .args .right .now) ∙ c .before .if2 .taken)
 
 resample-count-requires : tie.Need-resample-count-requires
 resample-count-requires c κs = (c .before .before .before .before .before .pre .0, few c)

@@ -22,7 +22,7 @@ empty-requires : tie.Need-empty-requires
 empty-requires c κs = search needs
 
 returns : tie.Need-returns
-returns c = no-points _ (c .empty .ensures) ∙ resample-none _ _ (length-points (c .before .before .before .args .cs .now) ∙ c .before .if1 .taken)
+returns c = no-points _ (c .empty .ensures .count) ∙ resample-none _ _ (length-points (c .before .before .before .args .cs .now) ∙ c .before .if1 .taken)
 
 measure-requires : tie.Need-measure-requires
 measure-requires c κs = search needs
