@@ -1,6 +1,6 @@
 #!/bin/sh
 # run.sh DRIVER [arguments]: builds the proved static libraries and the drivers, and runs one of them.
-# Drivers: roots (patterns of all classes against the machine's root), geometry (random polylines against the Rust),
+# Drivers: roots (patterns of all classes against the machine's root), geometry (every exported geometry call against the Rust),
 # edits (random calls in runs against the Rust), edit_times (the edits beside the Rust, timed),
 # runs (random runs from a map file to its change set file in one call, against the Rust's runs),
 # files (random and damaged map and set files against a codec written from document 01), file_times (files beside that codec,

@@ -3,6 +3,7 @@
 pub mod damage;
 pub mod edits;
 pub mod files;
+pub mod geometry;
 pub mod tables;
 
 mod c {
