@@ -1,12 +1,11 @@
 -- The enums of the edits' arguments as numbers, from 0 in the order in which they are declared. Each reader answers the last case for a number that is none;
 -- the tests tell such numbers apart.
 use Prim.Native.Nat.{ℕ, zero, suc, _+_, _*_}
-use mathlib.Core.Bool.{Bool, true, false, not, _&&_}
+use mathlib.Core.Bool.{Bool, true, false, not, _&&_, _||_}
 use mathlib.Core.List.{List, [], _∷_}
 use lib.Dec.{eqb, ltb}
-use lib.Ieee.{Float, nan}
+use lib.Ieee.{Float}
 use lib.ListN.{getD}
-use Rattle.geometry.specs.Point.{at3}
 use Rattle.map.specs.declared.SignalKind.{SignalKind}
 use Rattle.map.specs.declared.SignalKind.the-variants.{Vehicle, Pedestrian}
 use Rattle.map.specs.declared.BulbColor.{BulbColor}
@@ -21,7 +20,7 @@ use Rattle.edit.specs.declared.StopRule.{StopRule}
 use Rattle.edit.specs.declared.StopRule.the-variants.{StopSign, Marking, NoRule}
 use Rattle.edit.specs.declared.StopLineChoice.{StopLineChoice}
 use Rattle.edit.specs.declared.StopLineChoice.the-variants.{Automatic, Existing, New, NoLine}
-use Rattle.edit.specs.declared.SignalBulb.{SignalBulb}
+use Rattle.edit.specs.declared.Look.{Look}
 use Rattle.edit.specs.declared.Height.{Height}
 use Rattle.edit.specs.declared.Height.the-variants as h
 use Rattle.edit.specs.declared.SignalRequest.{SignalRequest}
@@ -75,30 +74,37 @@ heightOf false x = h.Standard
 abbrev pub flag : ℕ → Bool
 flag k = not (eqb k 0)
 
--- ---- a light: eighteen numbers (0 choice, 1 existing line, 2 placement, 3 housing given, 4 height given, 5 kind, 6 bulbs given, 7 how many, 8 to 15 colour
--- and arrow of four, 16 group given, 17 group), fourteen measures (0 offset or station, 1 height, 2 to 13 the positions of four bulbs)
+-- ---- a light: seventeen numbers (0 choice, 1 existing line, 2 placement of a new line, 3 housing given, 4 height given, 5 kind, 6 lamps given, 7 to 14 colour
+-- and arrow of four lamps, 15 group given, 16 group), and beside them the offset or station of a new line, and the height
 
-unfoldable pub bulbAt : List ℕ → List Float → ℕ → SignalBulb
-bulbAt ns xs i =
-    let p = 2 + i * 3 in
-    let k = 8 + i * 2 in
-    record { position = at3 (getD xs p nan) (getD xs (p + 1) nan) (getD xs (p + 2) nan); color = bulbColorOf (getD ns k 0); arrow = bulbArrowOf (getD ns (k + 1) 0) }
+unfoldable pub lookAt : List ℕ → ℕ → Look
+lookAt ns i = record { color = bulbColorOf (getD ns (7 + i * 2) 0); arrow = bulbArrowOf (getD ns (7 + i * 2 + 1) 0) }
 
-unfoldable pub requestOf : List ℕ → List Float → SignalRequest
-requestOf ns xs =
+unfoldable pub requestOf : List ℕ → Float → Float → SignalRequest
+requestOf ns measure height =
     record {
-      choice = choiceOf (getD ns 0 0) (getD ns 1 0) (placementOf (getD ns 2 0) (getD xs 0 nan));
+      choice = choiceOf (getD ns 0 0) (getD ns 1 0) (placementOf (getD ns 2 0) measure);
       «housing_given» = flag (getD ns 3 0);
-      height = heightOf (flag (getD ns 4 0)) (getD xs 1 nan);
+      height = heightOf (flag (getD ns 4 0)) height;
       kind = signalKindOf (getD ns 5 0);
-      bulbs = record { given = flag (getD ns 6 0); count = getD ns 7 0; bulbs = bulbAt ns xs 0 ∷ bulbAt ns xs 1 ∷ bulbAt ns xs 2 ∷ bulbAt ns xs 3 ∷ [] };
-      group = numberIf (flag (getD ns 16 0)) (getD ns 17 0);
+      lamps = record { given = flag (getD ns 6 0); looks = lookAt ns 0 ∷ lookAt ns 1 ∷ lookAt ns 2 ∷ lookAt ns 3 ∷ [] };
+      group = numberIf (flag (getD ns 15 0)) (getD ns 16 0);
     }
 
-unfoldable pub lampCases : List ℕ → ℕ → Bool
-lampCases ns i = ltb (getD ns (8 + i * 2) 0) 4 && ltb (getD ns (8 + i * 2 + 1) 0) 9
+-- ---- which of a light's numbers are read: the placement of a new line, and the looks of the lamps that are given
 
-unfoldable pub signalCases : List ℕ → Bool
-signalCases ns =
-    ltb (getD ns 0 0) 4 && ltb (getD ns 2 0) 3 && ltb (getD ns 5 0) 2
-    && lampCases ns 0 && lampCases ns 1 && lampCases ns 2 && lampCases ns 3
+abbrev pub drawsLine : List ℕ → Bool
+drawsLine ns = eqb (getD ns 0 0) 2
+
+unfoldable pub lookCases : List ℕ → ℕ → Bool
+lookCases ns i = ltb (getD ns (7 + i * 2) 0) 4 && ltb (getD ns (7 + i * 2 + 1) 0) 9
+
+-- of n lamps that are given, the look of lamp i is read where there is such a lamp
+unfoldable pub lampCases : List ℕ → ℕ → ℕ → Bool
+lampCases ns n i = not (flag (getD ns 6 0) && ltb i n) || lookCases ns i
+
+-- each number that is read and stands for an enum is a case of it
+unfoldable pub signalCases : List ℕ → ℕ → Bool
+signalCases ns n =
+    ltb (getD ns 0 0) 4 && (not (drawsLine ns) || ltb (getD ns 2 0) 3) && ltb (getD ns 5 0) 2
+    && lampCases ns n 0 && lampCases ns n 1 && lampCases ns n 2 && lampCases ns n 3

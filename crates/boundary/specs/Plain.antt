@@ -1,4 +1,4 @@
--- Calls by numbers: what they ask for, or that they are no call.
+-- Calls by numbers: what they ask for, or that they are no call. A number that the call does not read is not looked at.
 use Prim.Native.Nat.{ℕ}
 use mathlib.Core.Bool.{Bool, _&&_, cond}
 use mathlib.Core.Option.{Option, none, some}
@@ -7,12 +7,13 @@ use lib.Dec.{ltb}
 use lib.Ieee.{Float}
 use Rattle.edit.specs.StopLine.{NewStopLine}
 use Rattle.edit.specs.Light.{NewTrafficSignal}
-use Rattle.edit.specs.Request.{newTrafficSignal}
+use Rattle.edit.specs.Request.{lampCount, newTrafficSignal}
 use Rattle.boundary.specs.Numbers.{placementOf, stopRuleOf, requestOf, signalCases}
 
 unfoldable pub stopLineBy : List ℕ → ℕ → Float → List Float → ℕ → Option NewStopLine
 stopLineBy lanes placement measure given rule =
     cond (ltb placement 3 && ltb rule 3) (some (record { lanes = lanes; placement = placementOf placement measure; points = given; rule = stopRuleOf rule })) none
 
-unfoldable pub signalBy : List ℕ → List ℕ → List Float → List Float → List Float → Option NewTrafficSignal
-signalBy lanes ns xs points housing = cond (signalCases ns) (some (newTrafficSignal lanes (requestOf ns xs) points housing)) none
+unfoldable pub signalBy : List ℕ → List ℕ → Float → Float → List Float → List Float → List Float → Option NewTrafficSignal
+signalBy lanes ns measure height points housing lamps =
+    cond (signalCases ns (lampCount lamps)) (some (newTrafficSignal lanes (requestOf ns measure height) points housing lamps)) none

@@ -1,4 +1,5 @@
--- What a call answers, in four words: 0 done, 1 to 14 the refusal, 15 no call; the number answered; the two details of a refusal. A word that has nothing to say is 0.
+-- What a call answers, in four words: 0 done, 1 to 14 the refusal, 255 no such call; the number answered; the two details of a refusal. A word that has nothing to
+-- say is 0.
 use Prim.Native.Nat.{ℕ}
 use mathlib.Core.Path.{_≡_}
 use mathlib.Core.List.{List, [], _∷_}
@@ -13,8 +14,12 @@ abbrev pub replyOf : Answer Outcome → List ℕ
 replyOf (refused n ds) = n ∷ 0 ∷ getD ds 0 0 ∷ getD ds 1 0 ∷ []
 replyOf (done o) = 0 ∷ o .id ∷ 0 ∷ 0 ∷ []
 
-abbrev pub noCall : List ℕ
-noCall = 15 ∷ 0 ∷ 0 ∷ 0 ∷ []
+abbrev pub replyLength : ℕ
+replyLength = 4
+
+-- the answer to what is no call: a number that no refusal has
+abbrev pub noSuchCall : ℕ
+noSuchCall = 255
 
 abbrev pub replyWords : Reply → List ℕ
 replyWords r = r .what ∷ r .number ∷ r .detail ∷ r .second ∷ []

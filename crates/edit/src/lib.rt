@@ -26,11 +26,17 @@ pub struct SignalBulb {
     pub arrow: map::BulbArrow,
 }
 
-// A light's lamps: the standard ones, or up to four that are given. A count above four is refused.
-pub struct Bulbs {
+// How a lamp looks.
+pub struct Look {
+    pub color: map::BulbColor,
+    pub arrow: map::BulbArrow,
+}
+
+// A light's lamps: the standard ones, or those that are given. The positions of given lamps come beside the request, any number of
+// them; the looks of the first four stand here. More than four are refused, so a fifth has none.
+pub struct Lamps {
     pub given: bool,
-    pub count: u64,
-    pub bulbs: [SignalBulb; 4],
+    pub looks: [Look; 4],
 }
 
 pub enum Height {
@@ -38,13 +44,13 @@ pub enum Height {
     Metres(f64),
 }
 
-// A new light, but its lists: the lanes, the points of a given line and of a given housing come beside it.
+// A new light, but its lists: the lanes, the points of a given line, of a given housing and of given lamps come beside it.
 pub struct SignalRequest {
     pub choice: StopLineChoice,
     pub housing_given: bool,
     pub height: Height,
     pub kind: map::SignalKind,
-    pub bulbs: Bulbs,
+    pub lamps: Lamps,
     // the light that it joins
     pub group: MaybeNumber,
 }

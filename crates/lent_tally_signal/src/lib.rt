@@ -16,8 +16,9 @@ pub fn add_traffic_signal(
     q: SignalRequest,
     points: &[f64],
     housing: &[f64],
+    lamps: &[f64],
 ) -> Called
-    ensures { λ r. ⌜ CallLeft (addTrafficSignal (newTrafficSignal (now (lanes .entry)) q (now (points .entry)) (now (housing .entry)))) (record { words = now (words .entry); coords = now (coords .entry); fold = now (fold .entry); tally = now (tally .entry); set = now (set .entry) }) r (record { words = now (words .exit); coords = now (coords .exit); fold = now (fold .exit); tally = now (tally .exit); set = now (set .exit) }) ⌝ }
+    ensures { λ r. ⌜ CallLeft (addTrafficSignal (newTrafficSignal (now (lanes .entry)) q (now (points .entry)) (now (housing .entry)) (now (lamps .entry)))) (record { words = now (words .entry); coords = now (coords .entry); fold = now (fold .entry); tally = now (tally .entry); set = now (set .entry) }) r (record { words = now (words .exit); coords = now (coords .exit); fold = now (fold .exit); tally = now (tally .exit); set = now (set .exit) }) ⌝ }
 {
     let a = signals::add_traffic_signal(
         words,
@@ -29,6 +30,7 @@ pub fn add_traffic_signal(
         q,
         points,
         housing,
+        lamps,
     );
     *tally = a.tally;
     a.called

@@ -3,7 +3,7 @@ use Prim.Native.Nat.{ℕ, suc, _+_, _≤_, max}
 use mathlib.Core.Path.{_≡_, refl, sym, ap, _∙_}
 use mathlib.Core.Bool.{Bool, true, false, not, _&&_, cond, and-assoc}
 use mathlib.Core.Option.{Option, none, some}
-use mathlib.Core.List.{List, _++_, map}
+use mathlib.Core.List.{List, [], _++_, map}
 use native.Mathlib.Nat.{max-eq-right}
 use native.Mathlib.Omega.{arith}
 use borrow.Author.Tests.{leb-true, leb-false, le-leb, lt-leb, ltb-true, lt-ltb}
@@ -27,7 +27,7 @@ use Rattle.map.specs.declared.Found.{Found}
 use Rattle.map.specs.declared.Found.the-variants.{At, Nothing}
 use Rattle.map.specs.Ceilings.{rulePoints, points, withinCeilings}
 use Rattle.map.specs.MapFile.{isMap}
-use Rattle.map.specs.Record.{Bulb, light, Signal, Rule, Map}
+use Rattle.map.specs.Record.{light, Signal, Rule, Map}
 use Rattle.map.specs.Rows.{fresh, withLine, withSignal}
 use Rattle.map.specs.Lookup.{ruleOf}
 use Rattle.map.specs.Tables.{listAt, bodyOf, ruleIn, mapOf, isMapTables}
@@ -39,7 +39,7 @@ use Rattle.placing.specs.declared.Checked.{Checked}
 use Rattle.placing.specs.declared.Checked.the-variants.{Fine, Refused}
 use Rattle.placing.specs.Answers.{checked, maybeNumber}
 use Rattle.edit.specs.Request.{newTrafficSignal}
-use Rattle.edit.specs.declared.Bulbs.{Bulbs}
+use Rattle.signal_row.specs.declared.Bulbs.{Bulbs}
 use Rattle.edit.specs.declared.SignalRequest.{SignalRequest}
 use Rattle.edit.specs.Light.{NewTrafficSignal, lineDrawn, planPoints, positions, joinedLanes, groupRule, bulbsOf, newSignal, lightPlan, lightDraft, lightEdit}
 use Rattle.finishing.specs.Finish.{planned}
@@ -49,9 +49,8 @@ use Rattle.lighting.specs.declared.LinePlan.{LinePlan}
 use Rattle.lighting.specs.declared.LinePlan.the-variants.{Use, NoLine, Draw}
 use Rattle.lighting.specs.Housing.{housingOf}
 use Rattle.lighting.specs.declared.LightPlan.{LightPlan}
-use Rattle.lighting.specs.Plan.{planOf, drawnOf, LightPlanned}
-use Rattle.signal_row.specs.Row.{storedBulbs, BulbsRead, bulbsOnMap}
-use Rattle.signal_row.proofs.StoredLaws.{stored-count}
+use Rattle.lighting.specs.Plan.{planOf, drawnOf, planAnswer, LightPlanned}
+use Rattle.signal_row.specs.Row.{BulbsRead}
 use Rattle.grouping.specs.Group.{JoinedRead}
 use Rattle.light_draft.specs.declared.Light.{Light}
 use Rattle.light_draft.specs.Drafting.{lineFor, oneIf, ruleNumber, joins, numbersFor, LightNumbered, lineIn, liftedFirst, withPlan, withLight, storedMap, Joinable}
@@ -59,8 +58,9 @@ use Rattle.light_draft.proofs.DraftLaws.{group-light, map-order}
 use Rattle.light_store.specs.Storing.{groupIn, lightMap}
 use Rattle.light_store.proofs.StoreLaws.{lines-are, signals-are, rules-are, body-kind, body-signals, rule-body}
 use Rattle.light_room.specs.declared.SignalPlan.{SignalPlan}
-use Rattle.light_room.specs.Room.{onMap, JoinedFor, roomFor, RoomTested, Fitted, PlanRefused, plannedIn, signalDraft, SignalPlanned}
+use Rattle.light_room.specs.Room.{lampsOn, onMap, JoinedFor, roomFor, RoomTested, Fitted, PlanRefused, plannedIn, signalDraft, SignalPlanned}
 use Rattle.light_room.proofs.RoomLaws as R
+use Rattle.light_room.proofs.TestLaws.{lamps-all}
 
 pub points-count : (l : Line) → length (pointsOf l) ≡ l .count
 unfolding pointsOf
@@ -95,19 +95,19 @@ module _ (a : NewTrafficSignal) (m : Map) where
 
 -- ---- what is stored
 
-module _ (a : NewTrafficSignal) (m : Map) (plan : LinePlan) (line housing : Line) (clamped made : Bool) (b : Bulbs) (eb : storedBulbs b ≡ bulbsOf a (pointsOf housing)) where
+module _ (a : NewTrafficSignal) (m : Map) (plan : LinePlan) (line housing : Line) (clamped made : Bool) (on : Bool) (eo : on ≡ every pointOnMap (positions (bulbsOf a (pointsOf housing)))) where
   pub stored-is : every pointOnMap (lightDraft a m (record { plan = planOf plan (drawnOf (getD (a .lanes) 0 0) line clamped); housing = housingOf housing made }) .stored)
-      ≡ onMap (lineFor plan (fresh m) .drawn) (pointsOf line) (pointsOf housing) (bulbsOnMap b)
-  unfolding lightDraft onMap bulbsOnMap planPoints every
+      ≡ onMap (lineFor plan (fresh m) .drawn) (pointsOf line) (pointsOf housing) on
+  unfolding lightDraft onMap planPoints every
   stored-is =
       every-join pointOnMap (planPoints (planOf plan (drawnOf (getD (a .lanes) 0 0) line clamped)) ++ pointsOf housing) (positions (bulbsOf a (pointsOf housing)))
       ∙ ap (λ (x : Bool). x && every pointOnMap (positions (bulbsOf a (pointsOf housing)))) (every-join pointOnMap (planPoints (planOf plan (drawnOf (getD (a .lanes) 0 0) line clamped))) (pointsOf housing))
       ∙ and-assoc (every pointOnMap (planPoints (planOf plan (drawnOf (getD (a .lanes) 0 0) line clamped)))) (every pointOnMap (pointsOf housing)) (every pointOnMap (positions (bulbsOf a (pointsOf housing))))
-      ∙ ap (λ (bs : List Bulb). every pointOnMap (planPoints (planOf plan (drawnOf (getD (a .lanes) 0 0) line clamped))) && (every pointOnMap (pointsOf housing) && every pointOnMap (positions bs))) (sym eb)
+      ∙ ap (λ (t : Bool). every pointOnMap (planPoints (planOf plan (drawnOf (getD (a .lanes) 0 0) line clamped))) && (every pointOnMap (pointsOf housing) && t)) (sym eo)
       ∙ go plan
     where
-      go : (pl : LinePlan) → (every pointOnMap (planPoints (planOf pl (drawnOf (getD (a .lanes) 0 0) line clamped))) && (every pointOnMap (pointsOf housing) && every pointOnMap (positions (storedBulbs b))))
-          ≡ (cond (lineFor pl (fresh m) .drawn) (every pointOnMap (pointsOf line)) true && (every pointOnMap (pointsOf housing) && every pointOnMap (positions (storedBulbs b))))
+      go : (pl : LinePlan) → (every pointOnMap (planPoints (planOf pl (drawnOf (getD (a .lanes) 0 0) line clamped))) && (every pointOnMap (pointsOf housing) && on))
+          ≡ (cond (lineFor pl (fresh m) .drawn) (every pointOnMap (pointsOf line)) true && (every pointOnMap (pointsOf housing) && on))
       go (Use s) = refl
       go NoLine = refl
       go (Draw how) = refl
@@ -169,7 +169,8 @@ same-room : {a a′ b b′ c c′ u u′ x x′ h h′ n n′ : ℕ} {d d′ : B
 same-room j fr fp lists ea eb ec eu ed ex eh en = rw (ea, eb, ec, eu, ed, ex, eh, en)
 
 module _ (ws : List ℕ) (cs : List Float) (ok : isMapTables ws cs ≡ true) (a : NewTrafficSignal) (p : SignalPlan) (hl : lightPlan a (mapOf ws cs) ≡ done (plannedIn (a .lanes) p))
-    (hn : LightNumbered (nextOf ws) (p .plan) (a .group) (p .light)) (r1 : Roomy (p .line)) (r2 : Roomy (p .housing)) (hb : storedBulbs (p .bulbs) ≡ bulbsOf a (pointsOf (p .housing)))
+    (hn : LightNumbered (nextOf ws) (p .plan) (a .group) (p .light)) (r1 : Roomy (p .line)) (r2 : Roomy (p .housing)) (hc : length (bulbsOf a (pointsOf (p .housing))) ≡ p .bulbs .count)
+    (on : Bool) (ho : on ≡ every pointOnMap (positions (bulbsOf a (pointsOf (p .housing)))))
     (hj : JoinedFor ws (p .light .joins) (p .light .rule) (a .lanes) (p .joined)) where
   abbrev right : Light
   right = numbersFor false (mapOf ws cs .next) (p .plan) (a .group)
@@ -202,8 +203,8 @@ module _ (ws : List ℕ) (cs : List Float) (ok : isMapTables ws cs ≡ true) (a 
 
   -- what the tests say, with the lists and what goes
 
-  module _ (r : Checked) (hf : Fitted ws (a .lanes) (p .light) (p .line) (p .housing) (p .bulbs) (p .joined) r) where
-    module _ (t : RoomTested ws (a .lanes) (p .light) (p .line) (p .housing) (p .bulbs) (p .joined) r) where
+  module _ (r : Checked) (hf : Fitted ws (a .lanes) (p .light) (p .line) (p .housing) on (p .bulbs .count) (p .joined) r) where
+    module _ (t : RoomTested ws (a .lanes) (p .light) (p .line) (p .housing) (p .bulbs .count) (p .joined) r) where
       goes-rules : length (mapOf ws cs .rules) ≡ length (liftedFirst (mapOf ws cs) (lineIn right) (a .lanes) .rules) + t .freed .rules
       goes-rules = t .goes .rules cs ∙ ap (λ (o : Option ℕ). length (liftedFirst (mapOf ws cs) o (a .lanes) .rules) + t .freed .rules) line-is
 
@@ -249,7 +250,7 @@ module _ (ws : List ℕ) (cs : List Float) (ok : isMapTables ws cs ≡ true) (a 
 
       lamps-count : length (sig .bulbs) ≡ p .bulbs .count
       unfolding newSignal
-      lamps-count = ap length (sym hb) ∙ stored-count (p .bulbs)
+      lamps-count = hc
 
       housing-count : length (sig .geometry) ≡ p .housing .count
       unfolding newSignal
@@ -265,12 +266,12 @@ module _ (ws : List ℕ) (cs : List Float) (ok : isMapTables ws cs ≡ true) (a 
     unfolding lightEdit
     edit-done = rw hl
 
-    on-is : every pointOnMap (signalDraft a (mapOf ws cs) p .stored) ≡ onMap (p .light .drawn) (pointsOf (p .line)) (pointsOf (p .housing)) (bulbsOnMap (p .bulbs))
+    on-is : every pointOnMap (signalDraft a (mapOf ws cs) p .stored) ≡ onMap (p .light .drawn) (pointsOf (p .line)) (pointsOf (p .housing)) on
     on-is =
-        stored-is a (mapOf ws cs) (p .plan) (p .line) (p .housing) (p .clamped) (p .synthesized) (p .bulbs) hb
-        ∙ ap (λ (b : Bool). onMap b (pointsOf (p .line)) (pointsOf (p .housing)) (bulbsOnMap (p .bulbs))) (sym drawn-is)
+        stored-is a (mapOf ws cs) (p .plan) (p .line) (p .housing) (p .clamped) (p .synthesized) on ho
+        ∙ ap (λ (b : Bool). onMap b (pointsOf (p .line)) (pointsOf (p .housing)) on) (sym drawn-is)
 
-    tests-are : (b : Bool) → onMap (p .light .drawn) (pointsOf (p .line)) (pointsOf (p .housing)) (bulbsOnMap (p .bulbs)) ≡ b → planned (lightEdit a) (mapOf ws cs) ≡ (checked r >> done (signalDraft a (mapOf ws cs) p))
+    tests-are : (b : Bool) → onMap (p .light .drawn) (pointsOf (p .line)) (pointsOf (p .housing)) on ≡ b → planned (lightEdit a) (mapOf ws cs) ≡ (checked r >> done (signalDraft a (mapOf ws cs) p))
     tests-are false e =
         plan-off (lightEdit a) (mapOf ws cs) (signalDraft a (mapOf ws cs) p) edit-done (on-is ∙ e) ∙ sym (ap (λ (x : Checked). checked x >> done (signalDraft a (mapOf ws cs) p)) (hf .off e))
     tests-are true e =
@@ -287,51 +288,66 @@ module _ (ws : List ℕ) (cs : List Float) (ok : isMapTables ws cs ≡ true) (a 
 -- ---- the code's plan
 
 -- what is fine is on the map, and was tested for room
-room-tested : (ws lanes : List ℕ) (l : Light) (line housing : Line) (b : Bulbs) (e : Entries) (r : Checked) → Fitted ws lanes l line housing b e r → r ≡ Fine → RoomTested ws lanes l line housing b e Fine
-room-tested ws lanes l line housing b e r h f = go (onMap (l .drawn) (pointsOf line) (pointsOf housing) (bulbsOnMap b)) refl
+room-tested : (ws lanes : List ℕ) (l : Light) (line housing : Line) (lamps : Bool) (n : ℕ) (e : Entries) (r : Checked) → Fitted ws lanes l line housing lamps n e r → r ≡ Fine
+    → RoomTested ws lanes l line housing n e Fine
+room-tested ws lanes l line housing lamps n e r h f = go (onMap (l .drawn) (pointsOf line) (pointsOf housing) lamps) refl
   where
-    go : (t : Bool) → onMap (l .drawn) (pointsOf line) (pointsOf housing) (bulbsOnMap b) ≡ t → RoomTested ws lanes l line housing b e Fine
+    go : (t : Bool) → onMap (l .drawn) (pointsOf line) (pointsOf housing) lamps ≡ t → RoomTested ws lanes l line housing n e Fine
     go true k = rw f at (h .on k)
     go false k = let z = h .off k in absurd (let y : _≡_ {A = ℕ} 0 1 = cc in omega arith)
 
-module _ (ws : List ℕ) (cs : List Float) (ok : isMapTables ws cs ≡ true) (q : SignalRequest) (lanes : List ℕ) (points given : List Float) (lp : LightPlan)
-    (hp : LightPlanned lanes (lightPlan (newTrafficSignal lanes q points given) (mapOf ws cs)) lp) (l : Light) (b : Bulbs) (e : Entries) where
+-- the lamps play no part in where a light goes
+plan-any : (lanes : List ℕ) (q : SignalRequest) (points housing lamps : List Float) (m : Map) → lightPlan (newTrafficSignal lanes q points housing []) m ≡ lightPlan (newTrafficSignal lanes q points housing lamps) m
+unfolding lightPlan newTrafficSignal
+plan-any lanes q points housing lamps m = refl
+
+module _ (ws : List ℕ) (cs : List Float) (ok : isMapTables ws cs ≡ true) (q : SignalRequest) (lanes : List ℕ) (points given lamps : List Float) (lp : LightPlan)
+    (hp : LightPlanned lanes (lightPlan (newTrafficSignal lanes q points given []) (mapOf ws cs)) lp) (l : Light) (b : Bulbs) (e : Entries) where
   abbrev all : SignalPlan
   all = record { checked = lp .checked; plan = lp .plan; light = l; line = lp .line; clamped = lp .clamped; housing = lp .housing; synthesized = lp .synthesized; bulbs = b; joined = e }
 
-  pub plan-lost : (x : Refusal) → lp .checked ≡ Refused x → SignalPlanned ws cs q (newTrafficSignal lanes q points given) all
+  abbrev asked : NewTrafficSignal
+  asked = newTrafficSignal lanes q points given lamps
+
+  planned-so : planAnswer lanes lp ≡ lightPlan asked (mapOf ws cs)
+  planned-so = hp .read .answer ∙ plan-any lanes q points given lamps (mapOf ws cs)
+
+  pub plan-lost : (x : Refusal) → lp .checked ≡ Refused x → SignalPlanned ws cs q lamps asked all
   unfolding lightEdit
   plan-lost x k = record {
-    refused = λ y f. edit-refused (lightEdit (newTrafficSignal lanes q points given)) (mapOf ws cs) y (rw (← hp .read .answer, f));
+    refused = λ y f. edit-refused (lightEdit asked) (mapOf ws cs) y (rw (← planned-so, f));
     ready = λ f. absurd (let z : _≡_ {A = ℕ} 0 1 = cc in omega arith);
   }
 
-  module _ (k : lp .checked ≡ Fine) (hn : LightNumbered (nextOf ws) (lp .plan) (maybeNumber (q .group)) l) (hb : BulbsRead q (pointsOf (lp .housing)) b) (hj : JoinedFor ws (l .joins) (l .rule) lanes e)
-      (r : Checked) (hf : Fitted ws lanes l (lp .line) (lp .housing) b e r) where
-    hl : lightPlan (newTrafficSignal lanes q points given) (mapOf ws cs) ≡ done (plannedIn lanes all)
-    hl = sym (hp .read .answer) ∙ rw k
+  module _ (k : lp .checked ≡ Fine) (hn : LightNumbered (nextOf ws) (lp .plan) (maybeNumber (q .group)) l) (hb : BulbsRead q (pointsOf (lp .housing)) lamps b) (hj : JoinedFor ws (l .joins) (l .rule) lanes e)
+      (on : Bool) (eo : on ≡ lampsOn (q .lamps .given) lamps b) (r : Checked) (hf : Fitted ws lanes l (lp .line) (lp .housing) on (b .count) e r) where
+    hl : lightPlan asked (mapOf ws cs) ≡ done (plannedIn lanes all)
+    hl = sym planned-so ∙ rw k
 
-    pub plan-full : (x : Refusal) → r ≡ Refused x → (s : SignalPlan) → PlanRefused x s → SignalPlanned ws cs q (newTrafficSignal lanes q points given) s
+    ho : on ≡ every pointOnMap (positions (bulbsOf asked (pointsOf (lp .housing))))
+    ho = eo ∙ lamps-all q (pointsOf (lp .housing)) lamps b hb lanes points given
+
+    pub plan-full : (x : Refusal) → r ≡ Refused x → (s : SignalPlan) → PlanRefused x s → SignalPlanned ws cs q lamps asked s
     unfolding newTrafficSignal
     plan-full x f s hs = record {
       refused = λ y g. let z : Refused x ≡ Refused y = sym (hs .answer) ∙ g in let w : x ≡ y = cc in
-          turned-down ws cs ok (newTrafficSignal lanes q points given) all hl hn (hp .read .line) (hp .read .housing) (hb .answer lanes points given) hj r hf y (f ∙ ap Refused w);
+          turned-down ws cs ok asked all hl hn (hp .read .line) (hp .read .housing) (hb .count lanes points given) on ho hj r hf y (f ∙ ap Refused w);
       ready = λ g. absurd (let z : Refused x ≡ Fine = sym (hs .answer) ∙ g in let y : _≡_ {A = ℕ} 0 1 = cc in omega arith);
     }
 
-    pub plan-ready : r ≡ Fine → SignalPlanned ws cs q (newTrafficSignal lanes q points given) all
+    pub plan-ready : r ≡ Fine → SignalPlanned ws cs q lamps asked all
     unfolding newTrafficSignal
     plan-ready f = record {
       refused = λ y g. absurd (let z : Refused y ≡ Fine = sym g ∙ k in let w : _≡_ {A = ℕ} 0 1 = cc in omega arith);
       ready = λ _. record {
-        answer = accepted ws cs ok (newTrafficSignal lanes q points given) all hl hn (hp .read .line) (hp .read .housing) (hb .answer lanes points given) hj r hf f;
+        answer = accepted ws cs ok asked all hl hn (hp .read .line) (hp .read .housing) (hb .count lanes points given) on ho hj r hf f;
         numbers = hn;
         line-room = hp .read .line;
         housing-room = hp .read .housing;
         lanes = hp .some-lanes k;
-        lamps = hb;
-        group = λ g eg. group-light (newTrafficSignal lanes q points given) (mapOf ws cs) (plannedIn lanes all) hl g eg;
+        lamps-read = hb;
+        group = λ g eg. group-light asked (mapOf ws cs) (plannedIn lanes all) hl g eg;
         joined-lanes = hj;
-        tested = room-tested ws lanes l (lp .line) (lp .housing) b e r hf f;
+        tested = room-tested ws lanes l (lp .line) (lp .housing) on (b .count) e r hf f;
       };
     }

@@ -2,7 +2,6 @@
 pub mod tests; // tests.rt: whether it is on the map, and whether there is room
 
 use centerline::Line;
-use edit::Bulbs;
 use edit::SignalRequest;
 use light_draft::Light;
 use light_draft::light_of;
@@ -11,6 +10,7 @@ use lighting::plan::light_plan;
 use map::Entries;
 use placing::Checked;
 use refusal::Refusal;
+use signal_row::Bulbs;
 use signal_row::bulbs_of;
 ghost use mathlib.Core.Path.{_≡_};
 ghost use mathlib.Core.Bool.{true};
@@ -37,26 +37,27 @@ pub struct SignalPlan {
     pub joined: Entries,
 }
 
-// 9 for what is to be stored, then 10.
+// 9 for what is to be stored, the lamps being on the map or not, then 10 for so many of them and all else.
 fn fitted(
     words: &[u64],
     lanes: &[u64],
     l: Light,
     line: Line,
     housing: Line,
-    bulbs: Bulbs,
+    lamps: bool,
+    count: u64,
     joined: Entries,
 ) -> Checked
     requires { ⌜ ReadableWords (now words) × ShapesFew (now words) × Few (now words) × (allPoints (now words) ≤ 1024) × Roomy line × Roomy housing ⌝ }
-    ensures { λ r. ⌜ Fitted (now (words .entry)) (now (lanes .entry)) l line housing bulbs joined r ⌝ }
+    ensures { λ r. ⌜ Fitted (now (words .entry)) (now (lanes .entry)) l line housing lamps count joined r ⌝ }
 {
-    if !tests::on_map(l.drawn, line, housing, bulbs) {
+    if !tests::on_map(l.drawn, line, housing, lamps) {
         return Checked::Refused(Refusal::OffTheMap);
     }
     let freed = tests::freed_by(words, l.has_line, l.line, lanes);
     let lists = tests::lists_fit(words, l.joins, l.rule, lanes.len(), joined);
     let more = tests::points_of(l.drawn, line.count, housing.count);
-    if !tests::room(words, l.drawn, l.joins, freed, more, bulbs.count, lists) {
+    if !tests::room(words, l.drawn, l.joins, freed, more, count, lists) {
         return Checked::Refused(Refusal::Full);
     }
     Checked::Fine
@@ -92,9 +93,10 @@ pub fn signal_plan(
     q: SignalRequest,
     points: &[f64],
     given: &[f64],
+    lamps: &[f64],
 ) -> SignalPlan
     requires { ⌜ isMapTables (now words) (now coords) ≡ true ⌝ }
-    ensures { λ r. ⌜ SignalPlanned (now (words .entry)) (now (coords .entry)) q (newTrafficSignal (now (lanes .entry)) q (now (points .entry)) (now (given .entry))) r ⌝ }
+    ensures { λ r. ⌜ SignalPlanned (now (words .entry)) (now (coords .entry)) q (now (lamps .entry)) (newTrafficSignal (now (lanes .entry)) q (now (points .entry)) (now (given .entry)) (now (lamps .entry))) r ⌝ }
 {
     let p = light_plan(words, coords, lanes, q, points, given);
     let checked = p.checked;
@@ -103,7 +105,7 @@ pub fn signal_plan(
     let housing = p.housing;
     let group = q.group;
     let light = light_of(words, plan, group);
-    let bulbs = bulbs_of(q, housing);
+    let bulbs = bulbs_of(q, housing, lamps);
     let joined = tests::joined_for(words, light.joins, light.rule, lanes);
     let all = SignalPlan {
         checked,
@@ -119,7 +121,9 @@ pub fn signal_plan(
     if let Checked::Refused(_) = checked {
         return all;
     }
-    let end = fitted(words, lanes, light, line, housing, bulbs, joined);
+    let asked = q.lamps;
+    let on = tests::lamps_on(asked.given, lamps, bulbs);
+    let end = fitted(words, lanes, light, line, housing, on, bulbs.count, joined);
     if let Checked::Refused(r) = end {
         return refused_plan(r, all);
     }

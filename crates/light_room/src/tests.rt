@@ -1,6 +1,5 @@
 // Whether what is stored of a light is on the map, and whether the map that it leaves keeps below the ceilings.
 use centerline::Line;
-use edit::Bulbs;
 use grouping::joined_lanes;
 use lifting::Freed;
 use lifting::gone;
@@ -8,9 +7,10 @@ use light_draft::both;
 use map::Entries;
 use map::Found;
 use map::lookup;
+use signal_row::Bulbs;
 use signal_row::bulbs_on_map;
 ghost use mathlib.Core.Path.{_≡_};
-ghost use mathlib.Core.Bool.{true, cond};
+ghost use mathlib.Core.Bool.{true, false, cond};
 ghost use mathlib.Core.Option.{none, some};
 ghost use Prim.Native.Nat.{_+_, _≤_};
 ghost use lib.Dec.{leb};
@@ -22,9 +22,8 @@ ghost use Rattle.row_tests.specs.Flat.{allPoints, Few};
 ghost use Rattle.place.specs.Readable.{ReadableWords};
 ghost use Rattle.place.specs.Values.{Roomy};
 ghost use Rattle.lifting.specs.Lifting.{ShapesFew};
-ghost use Rattle.signal_row.specs.Row.{bulbsOnMap};
 ghost use Rattle.light_draft.specs.Drafting.{oneIf};
-ghost use Rattle.light_room.specs.Room.{FreedRead, JoinedFor, ListsFit, onMap, countsFit, roomFor};
+ghost use Rattle.light_room.specs.Room.{lampsOn, FreedRead, JoinedFor, ListsFit, onMap, countsFit, roomFor};
 
 // A line, where it is stored.
 fn line_on(asked: bool, line: Line) -> bool
@@ -39,15 +38,28 @@ fn line_on(asked: bool, line: Line) -> bool
     finishing::stored_ok(&cs[..e])
 }
 
+// Every lamp: those that are given, also past the fourth, each with all its coordinates; or the standard ones.
+pub fn lamps_on(given: bool, lamps: &[f64], standard: Bulbs) -> bool
+    requires { ⌜ (given ≡ false → standard .count ≤ 4) ⌝ }
+    ensures { λ r. ⌜ r ≡ lampsOn given (now (lamps .entry)) standard ⌝ }
+{
+    if !given {
+        return bulbs_on_map(standard);
+    }
+    if lamps.len() % 3 != 0 {
+        return false;
+    }
+    finishing::stored_ok(lamps)
+}
+
 // The line where it is drawn, the housing, and the lamps.
-pub fn on_map(drawn: bool, line: Line, housing: Line, bulbs: Bulbs) -> bool
+pub fn on_map(drawn: bool, line: Line, housing: Line, lamps: bool) -> bool
     requires { ⌜ Roomy line × Roomy housing ⌝ }
-    ensures { λ r. ⌜ r ≡ onMap drawn (pointsOf line) (pointsOf housing) (bulbsOnMap bulbs) ⌝ }
+    ensures { λ r. ⌜ r ≡ onMap drawn (pointsOf line) (pointsOf housing) lamps ⌝ }
 {
     let a = line_on(drawn, line);
     let b = line_on(true, housing);
-    let c = bulbs_on_map(bulbs);
-    both(a, both(b, c))
+    both(a, both(b, lamps))
 }
 
 // What goes under a light: nothing where it has no line.

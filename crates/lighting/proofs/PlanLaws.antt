@@ -101,7 +101,7 @@ module _ (given : Bool) (cs : List Float) where
 -- ---- the tests before the line's place
 
 module _ (ws lanes : List ℕ) (q : SignalRequest) (housing : List Float) where
-  made-refused : (x : Refusal) (r : ChosenLine) → r .checked ≡ Refused x → ((cs points : List Float) → lightPlan (newTrafficSignal lanes q points housing) (mapOf ws cs) ≡ refusedAs x)
+  made-refused : (x : Refusal) (r : ChosenLine) → r .checked ≡ Refused x → ((cs points : List Float) → lightPlan (newTrafficSignal lanes q points housing []) (mapOf ws cs) ≡ refusedAs x)
       → ChoiceMade ws lanes q housing r
   made-refused x r e h =
       record {
@@ -297,7 +297,7 @@ light-is m lanes plan points given cs center a r ec ea er =
 
 module _ (ws lanes : List ℕ) (q : SignalRequest) (housing cs points : List Float) (c : ChosenLine) (made : ChoiceMade ws lanes q housing c) (r : LightPlan) where
   pub plan-refused : (x : Refusal) → c .checked ≡ Refused x → (r .checked ≡ Refused x) × Roomy (r .line) × Roomy (r .housing)
-      → LightPlanned lanes (lightPlan (newTrafficSignal lanes q points housing) (mapOf ws cs)) r
+      → LightPlanned lanes (lightPlan (newTrafficSignal lanes q points housing []) (mapOf ws cs)) r
   plan-refused x k e =
       record {
         read = record { answer = rw (e .0) (sym (made .answer cs points ∙ rw k)); line = e .1; housing = e .2 };
@@ -305,7 +305,7 @@ module _ (ws lanes : List ℕ) (q : SignalRequest) (housing cs points : List Flo
       }
 
   pub plan-is : c .checked ≡ Fine → LightRead lanes (plannedAs (mapOf ws cs) lanes (c .plan) points (cond (q .«housing_given») (some housing) none)) r
-      → LightPlanned lanes (lightPlan (newTrafficSignal lanes q points housing) (mapOf ws cs)) r
+      → LightPlanned lanes (lightPlan (newTrafficSignal lanes q points housing []) (mapOf ws cs)) r
   plan-is k e =
       record {
         read = record { answer = e .answer ∙ sym (made .answer cs points ∙ rw k); line = e .line; housing = e .housing };

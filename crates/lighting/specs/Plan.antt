@@ -74,7 +74,7 @@ unfoldable pub plannedAs : Map → List ℕ → LinePlan → List Float → Opti
 plannedAs m lanes plan points given = chosenPlan m lanes plan points >>= plannedFrom m lanes given
 
 pub record ChoiceMade (ws lanes : List ℕ) (q : SignalRequest) (housing : List Float) (r : ChosenLine) : Type 0 where
-  pub answer : (cs points : List Float) → lightPlan (newTrafficSignal lanes q points housing) (mapOf ws cs)
+  pub answer : (cs points : List Float) → lightPlan (newTrafficSignal lanes q points housing []) (mapOf ws cs)
       ≡ (checked (r .checked) >> plannedAs (mapOf ws cs) lanes (r .plan) points (cond (q .«housing_given») (some housing) none))
   pub some-lanes : r .checked ≡ Fine → 0 < length lanes
   pub few : r .checked ≡ Fine → q .«housing_given» ≡ true → length housing / 3 ≤ 64

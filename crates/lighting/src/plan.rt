@@ -28,6 +28,7 @@ use refusal::Refusal;
 ghost use mathlib.Core.Path.{_≡_};
 ghost use mathlib.Core.Bool.{true, not, _||_, cond};
 ghost use mathlib.Core.Option.{none, some};
+ghost use mathlib.Core.List.{[]};
 ghost use Prim.Native.Nat.{_/_, _≤_, _<_};
 ghost use lib.ListN.{length, getD};
 ghost use Rattle.map.specs.Tables.{mapOf};
@@ -240,7 +241,7 @@ fn place_light(
     with_housing(center, plan, a, given, housing)
 }
 
-// A light's plan, or the refusal. Given points and a given housing come beside the request.
+// A light's plan, or the refusal. Given points and a given housing come beside the request; the lamps play no part in it.
 pub fn light_plan(
     words: &[u64],
     coords: &[f64],
@@ -250,7 +251,7 @@ pub fn light_plan(
     housing: &[f64],
 ) -> LightPlan
     requires { ⌜ Readable (now words) (now coords) ⌝ }
-    ensures { λ r. ⌜ LightPlanned (now (lanes .entry)) (lightPlan (newTrafficSignal (now (lanes .entry)) q (now (points .entry)) (now (housing .entry))) (mapOf (now (words .entry)) (now (coords .entry)))) r ⌝ }
+    ensures { λ r. ⌜ LightPlanned (now (lanes .entry)) (lightPlan (newTrafficSignal (now (lanes .entry)) q (now (points .entry)) (now (housing .entry)) []) (mapOf (now (words .entry)) (now (coords .entry)))) r ⌝ }
 {
     let c = choose(words, lanes, q, housing);
     let chosen = c.checked;

@@ -1,16 +1,18 @@
 -- A map file opened, a list of calls carried out on it, and the running fold written as a change set file. What every run promises, for what this code leaves.
 use Prim.Native.Nat.{ℕ, _*_}
 use mathlib.Core.Path.{_≡_}
-use mathlib.Core.Bool.{true, false}
+use mathlib.Core.Bool.{true, false, not, _&&_}
 use mathlib.Core.Option.{Option}
-use mathlib.Core.List.{List, _++_}
+use mathlib.Core.List.{List, [], _++_}
+use lib.Dec.{eqb}
 use lib.ListN.{length, drop}
-use Rattle.refusal.specs.Answer.{Answer, done, _>>=_, _>>_}
+use Rattle.refusal.specs.Answer.{Answer, done, _>>=_, _>>_, refuseWhen}
 use Rattle.codec.specs.Format
 use Rattle.codec.specs.Format.{Bytes}
+use Rattle.store.specs.Layout.{allWords, allCoords}
 use Rattle.map.specs.Record.{Map}
 use Rattle.changes.specs.ChangeFile.{changeFile}
-use Rattle.changes.specs.Layout.{changeSetOf}
+use Rattle.changes.specs.Layout.{setWords, changeSetOf}
 use Rattle.changes.specs.Running.{opening}
 use Rattle.refusal.specs.declared.Refusal.{Refusal}
 use Rattle.files.specs.declared.Written.{Written}
@@ -18,19 +20,21 @@ use Rattle.files.specs.declared.Written.the-variants as W
 use Rattle.files.specs.Files.{readMap, putIn}
 use Rattle.files.specs.WriteOut.{FileWritten}
 use Rattle.edit.specs.Lent.{Lent, stateOf}
-use Rattle.run.specs.Run.{Edit, runAll, setsOf, calls}
+use Rattle.run.specs.Run.{Edit, runAll, setsOf}
 use Rattle.run.specs.Law.{RunLaw}
 use Rattle.call_list.specs.declared.Ran.{Ran}
 use Rattle.call_list.specs.declared.Ran.the-variants as R
+use Rattle.call_list.specs.Reply.{replyLength}
 use Rattle.call_list.specs.Rows.{editsOf}
-use Rattle.call_list.specs.Ran.{ran, runAnswer, isRefused, replies, lastSet}
+use Rattle.call_list.specs.Ran.{ran, isRefused, roomAnswer, replies, lastSet}
 
--- the lengths as a run tests them, then 12 for bytes that are no map file; else how many rows were carried out
+-- 12 for the map's slices and then for bytes that are no map file, 13 for the slices of fold and set, 14 for the answers; else how many rows were carried out
 unfoldable pub openedAnswer : Bytes → List (Option Edit) → Lent → List ℕ → Answer ℕ
 openedAnswer file rows l answers = do
-  n ← runAnswer rows l answers
+  refuseWhen (not (eqb (length (l .words)) allWords && eqb (length (l .coords)) allCoords)) 12 []
   readMap file
-  done n
+  refuseWhen (not (eqb (length (l .fold)) setWords && eqb (length (l .set)) setWords)) 13 []
+  roomAnswer (length rows) answers
 
 -- for m the map of the file, es the calls among the rows, and s the state that the tables, the fold and the tally stand for at the end
 pub record LeftByRun (m : Map) (rows : List (Option Edit)) (old : Lent) (answers buffer : List ℕ) (w : Written) (new : Lent) (answers′ buffer′ : List ℕ) : Type 0 where
@@ -41,7 +45,7 @@ pub record LeftByRun (m : Map) (rows : List (Option Edit)) (old : Lent) (answers
   -- the set that is lent holds the change set of the last call that was accepted
   pub set : changeSetOf (new .set) ≡ lastSet (changeSetOf (old .set)) (setsOf (editsOf rows) (opening m))
   -- each row has its answer in four words; the words after stay
-  pub replied : answers′ ≡ replies rows (calls (editsOf rows) (opening m)) ++ drop (length rows * 4) answers
+  pub replied : answers′ ≡ replies rows (opening m) ++ drop (length rows * replyLength) answers
   -- the buffer begins with the fold's change set file, and the bytes after stay; where it is too short that is 14, and the buffer stays, but the run is carried out
   pub written : FileWritten (putIn (changeFile .write (stateOf new .fold)) buffer) (changeFile .write (stateOf new .fold)) buffer w buffer′
 

@@ -7,29 +7,28 @@ use mathlib.Core.List.{List, [], _∷_, map}
 use native.Mathlib.Omega.{arith}
 use lib.Dec.{eqb}
 use lib.Ieee.{Float, nan}
-use lib.ListN.{length, getD, List·getD-eq-default, length-map}
+use lib.ListN.{length, getD, length-map}
 use borrow.Author.Tests.{not-true, not-false}
 use Rattle.rows.specs.Lists.{orDefault, listTo, every}
 use Rattle.rows.proofs.Indexed.{tab, listTo-tab, length-listTo, listTo-same, tab-step, tab-none}
 use Rattle.geometry.specs.declared.Point3.{Point3}
-use Rattle.geometry.specs.Double.{open-double}
 use Rattle.geometry.specs.Point.{at3, pointOnMap}
 use Rattle.geometry.specs.Polyline.{polylineOf}
 use Rattle.map.specs.Record.{Bulb, signalKindNumber, bulbColorNumber, bulbArrowNumber}
 use Rattle.map.specs.Tables.{flagAt, pointFrom}
 use Rattle.map.specs.Updates.{signalOfParts}
-use Rattle.edit.specs.declared.Bulbs.{Bulbs}
+use Rattle.signal_row.specs.declared.Bulbs.{Bulbs}
 use Rattle.edit.specs.declared.SignalBulb.{SignalBulb}
 use Rattle.edit.specs.declared.SignalRequest.{SignalRequest}
 use Rattle.edit.specs.Light.{defaultHeight, storedBulb, positions, heightOf, newSignal}
-use Rattle.edit.specs.Request.{heightGiven, noBulb, newTrafficSignal}
+use Rattle.edit.specs.Request.{heightGiven, newTrafficSignal}
 use Rattle.signal_row.specs.declared.BulbNumbers.{BulbNumbers}
 use Rattle.signal_row.specs.declared.SignalRow.{SignalRow}
-use Rattle.signal_row.specs.Row.{storedBulbs, BulbsRead, BulbWords, RowMade, bulbsOnMap}
+use Rattle.signal_row.specs.Row.{noBulb, storedBulbs, BulbsRead, BulbWords, RowMade, bulbsOnMap}
 
 -- ---- lists by index
 
-getD-any : {A : Type 0} (l : List A) (i : ℕ) (d e : A) → i < length l → getD l i d ≡ getD l i e
+pub getD-any : {A : Type 0} (l : List A) (i : ℕ) (d e : A) → i < length l → getD l i d ≡ getD l i e
 getD-any [] i d e h = absurd (let z : ⊥ = omega arith in z)
 getD-any (x ∷ l) zero d e h = refl
 getD-any (x ∷ l) (suc i) d e h = getD-any l i d e (omega arith)
@@ -39,7 +38,7 @@ unfolding tab
 map-tab f g i zero = refl
 map-tab f g i (suc n) = ap (λ (l : List _). f (g i) ∷ l) (map-tab f g (suc i) n)
 
-map-listTo : {A B : Type 0} (f : A → B) (g : ℕ → A) (n : ℕ) → map f (listTo g n) ≡ listTo (λ j. f (g j)) n
+pub map-listTo : {A B : Type 0} (f : A → B) (g : ℕ → A) (n : ℕ) → map f (listTo g n) ≡ listTo (λ j. f (g j)) n
 map-listTo f g n = ap (map f) (listTo-tab g n) ∙ map-tab f g 0 n ∙ sym (listTo-tab (λ j. f (g j)) n)
 
 pub unmapped : {X Y : Type 0} (f : X → Y) (l : List X) (n : ℕ) → length (map f l) ≡ n → length l ≡ n
@@ -97,7 +96,7 @@ module _ (bs : List SignalBulb) (long : length bs ≡ 4) (z : SignalBulb) (w0 w1
           number = refl;
           housing = refl;
           lamps = sym ec;
-          signal = λ lanes given cs pts read. rw (lamps-are h, ek, eh, ← eb, ← ec, read .answer lanes given cs);
+          signal = λ lanes given cs lamps pts read. rw (lamps-are h, ek, eh, ← eb, ← ec, read .answer lanes given cs (omega arith));
         }
 
 pub stored-count : (b : Bulbs) → length (storedBulbs b) ≡ b .count
@@ -114,10 +113,6 @@ unfolding every storedBulb
 every-stands [] = refl
 every-stands (b ∷ l) = ap (λ (t : Bool). standsOn b && t) (every-stands l)
 
-none-stands : standsOn noBulb ≡ true
-unfolding pointOnMap open-double
-none-stands = refl
-
 -- the lamps before i are on the map
 pub record Stand (all : List SignalBulb) (n i : ℕ) : Type 0 where
   pub within : i ≤ 4
@@ -128,19 +123,10 @@ stand-start all n =
     let e : n - 0 ≡ n = omega arith in
     record { within = omega arith; goes = every-stands (listTo (λ j. getD all j noBulb) n) ∙ rw e (ap (every standsOn) (listTo-tab (λ j. getD all j noBulb) n)) }
 
-past-stand : (all : List SignalBulb) (i k : ℕ) → length all ≤ i → every standsOn (tab (λ j. getD all j noBulb) i k) ≡ true
-unfolding every tab
-past-stand all i zero h = refl
-past-stand all i (suc k) h = rw (List·getD-eq-default all noBulb {n = i} h, none-stands) (past-stand all (suc i) k (omega arith))
-
 module _ (b : Bulbs) (i : ℕ) (inv : Stand (b .bulbs) (b .count) i) where
   pub stand-end : b .count ≤ i → true ≡ bulbsOnMap b
   unfolding bulbsOnMap storedBulbs every
   stand-end h = sym (inv .goes ∙ rw (tab-none (λ j. getD (b .bulbs) j noBulb) (b .count) i h))
-
-  pub stand-past : length (b .bulbs) ≡ 4 → 4 ≤ i → true ≡ bulbsOnMap b
-  unfolding bulbsOnMap storedBulbs
-  stand-past l h = sym (inv .goes ∙ past-stand (b .bulbs) i (b .count - i) (omega arith))
 
   module _ (l : length (b .bulbs) ≡ 4) (h : i < b .count) (f : i < 4) (z : SignalBulb) (t : Bool) (e : t ≡ pointOnMap (getD (b .bulbs) i z .position)) where
     here : standsOn (getD (b .bulbs) i noBulb) ≡ t

@@ -1,7 +1,7 @@
 // A new signal: its lamps, given or standard, its row of the tables, and the tests of what is stored of it.
 use centerline::Line;
-use edit::Bulbs;
 use edit::Height;
+use edit::Look;
 use edit::SignalBulb;
 use edit::SignalRequest;
 use geometry::MaybePoint3;
@@ -15,19 +15,26 @@ use map::bulb_color_number;
 use map::signal_kind_number;
 ghost use mathlib.Core.Path.{_≡_};
 ghost use mathlib.Core.List.{[], _∷_};
-ghost use Prim.Native.Nat.{_≤_};
-ghost use lib.Ieee.{Float};
+ghost use Prim.Native.Nat.{_≤_, _<_};
+ghost use lib.Ieee.{Float, nan};
+ghost use lib.ListN.{getD};
 ghost use Rattle.rows.specs.Lists.{orDefault};
 ghost use Rattle.centerline.specs.Line.{pointsOf};
 ghost use Rattle.place.specs.Values.{Roomy};
-ghost use Rattle.edit.specs.Light.{defaultHeight, defaultBulbs};
-ghost use Rattle.edit.specs.Request.{heightGiven, noBulb};
-ghost use Rattle.signal_row.specs.Row.{bulbPlace, BulbMade, storedBulbs, BulbsRead, BulbWords, RowMade, bulbsOnMap};
+ghost use Rattle.edit.specs.Light.{defaultHeight};
+ghost use Rattle.edit.specs.Request.{heightGiven, lampCount};
+ghost use Rattle.signal_row.specs.Row.{noBulb, bulbPlace, BulbMade, BulbGiven, LampsRead, StandardMade, BulbsRead, BulbWords, RowMade, bulbsOnMap};
 
 // The words of a signal's row, and its coordinates after the housing: its height and its lamps' positions.
 pub struct SignalRow {
     pub words: [u64; 13],
     pub more: [f64; 13],
+}
+
+// The lamps that are stored: as many as are counted, in the room for four. More than four are refused.
+pub struct Bulbs {
+    pub count: u64,
+    pub bulbs: [SignalBulb; 4],
 }
 
 // The numbers of a lamp's colour and arrow.
@@ -94,7 +101,7 @@ fn no_bulb() -> SignalBulb
 // Green, yellow and red, evenly along the housing; a pedestrian's light has no yellow.
 fn standard_bulbs(kind: SignalKind, housing: Line, height: f64) -> Bulbs
     requires { ⌜ Roomy housing ⌝ }
-    ensures { λ r. ⌜ storedBulbs r ≡ defaultBulbs kind (pointsOf housing) height ⌝ }
+    ensures { λ r. ⌜ StandardMade kind (pointsOf housing) height r ⌝ }
 {
     let none = no_bulb();
     match kind {
@@ -103,7 +110,6 @@ fn standard_bulbs(kind: SignalKind, housing: Line, height: f64) -> Bulbs
             let b = standard_bulb(housing, height, 1, 3, BulbColor::Yellow);
             let c = standard_bulb(housing, height, 2, 3, BulbColor::Red);
             Bulbs {
-                given: true,
                 count: 3,
                 bulbs: [a, b, c, none],
             }
@@ -112,7 +118,6 @@ fn standard_bulbs(kind: SignalKind, housing: Line, height: f64) -> Bulbs
             let a = standard_bulb(housing, height, 0, 2, BulbColor::Green);
             let b = standard_bulb(housing, height, 1, 2, BulbColor::Red);
             Bulbs {
-                given: true,
                 count: 2,
                 bulbs: [a, b, none, none],
             }
@@ -120,14 +125,68 @@ fn standard_bulbs(kind: SignalKind, housing: Line, height: f64) -> Bulbs
     }
 }
 
-// The lamps as given, or the standard ones.
-pub fn bulbs_of(q: SignalRequest, housing: Line) -> Bulbs
-    requires { ⌜ Roomy housing ⌝ }
-    ensures { λ r. ⌜ BulbsRead q (pointsOf housing) r ⌝ }
+// A coordinate of the lamps; one that is missing is no number.
+fn lamp_coord(lamps: &[f64], i: usize) -> f64
+    ensures { λ r. ⌜ r ≡ getD (now (lamps .entry)) i nan ⌝ }
 {
-    let b = q.bulbs;
-    if b.given {
-        return b;
+    if i < lamps.len() {
+        return lamps[i];
+    }
+    0.0 / 0.0
+}
+
+// Lamp i of those that are given, with its look.
+fn given_bulb(lamps: &[f64], i: usize, look: Look) -> SignalBulb
+    requires { ⌜ i < 4 ⌝ }
+    ensures { λ r. ⌜ BulbGiven (now (lamps .entry)) i look r ⌝ }
+{
+    let color = look.color;
+    let arrow = look.arrow;
+    SignalBulb {
+        position: Point3 {
+            x: lamp_coord(lamps, i * 3),
+            y: lamp_coord(lamps, i * 3 + 1),
+            z: lamp_coord(lamps, i * 3 + 2),
+        },
+        color,
+        arrow,
+    }
+}
+
+// How many lamps these are the coordinates of: one that lacks a coordinate counts.
+pub fn lamp_count(lamps: &[f64]) -> u64
+    ensures { λ r. ⌜ r ≡ lampCount (now (lamps .entry)) ⌝ }
+{
+    let n = lamps.len() as u64;
+    if n % 3 == 0 { n / 3 } else { n / 3 + 1 }
+}
+
+fn given_bulbs(lamps: &[f64], looks: [Look; 4]) -> Bulbs
+    ensures { λ r. ⌜ LampsRead (now (lamps .entry)) looks r ⌝ }
+{
+    let l0 = looks[0];
+    let l1 = looks[1];
+    let l2 = looks[2];
+    let l3 = looks[3];
+    let b0 = given_bulb(lamps, 0, l0);
+    let b1 = given_bulb(lamps, 1, l1);
+    let b2 = given_bulb(lamps, 2, l2);
+    let b3 = given_bulb(lamps, 3, l3);
+    Bulbs {
+        count: lamp_count(lamps),
+        bulbs: [b0, b1, b2, b3],
+    }
+}
+
+// The lamps as given, or the standard ones.
+pub fn bulbs_of(q: SignalRequest, housing: Line, lamps: &[f64]) -> Bulbs
+    requires { ⌜ Roomy housing ⌝ }
+    ensures { λ r. ⌜ BulbsRead q (pointsOf housing) (now (lamps .entry)) r ⌝ }
+{
+    let asked = q.lamps;
+    if asked.given {
+        let looks = asked.looks;
+        return given_bulbs(lamps, looks);
     }
     let h = q.height;
     let kind = q.kind;
@@ -208,8 +267,9 @@ pub fn signal_row(number: u64, q: SignalRequest, points: usize, bulbs: Bulbs) ->
     }
 }
 
-// Whether every lamp is on the map. One past the fourth stands at the origin, which is.
+// Whether every lamp that is stored is on the map.
 pub fn bulbs_on_map(b: Bulbs) -> bool
+    requires { ⌜ b .count ≤ 4 ⌝ }
     ensures { λ r. ⌜ r ≡ bulbsOnMap b ⌝ }
 {
     let all = b.bulbs;

@@ -56,7 +56,7 @@ is-room : (b : Bool) → done tt ≡ refuseWhen (not b) 10 [] → b ≡ true
 is-room true e = refl
 is-room false e = absurd (let z : _≡_ {A = ℕ} 0 1 = cc in omega arith)
 
-module _ (ws : List ℕ) (cs : List Float) (q : SignalRequest) (a : NewTrafficSignal) (p : SignalPlan) (ready : SignalReady ws cs q a p) where
+module _ (ws : List ℕ) (cs : List Float) (q : SignalRequest) (lamps : List Float) (a : NewTrafficSignal) (p : SignalPlan) (ready : SignalReady ws cs q lamps a p) where
   drawn-is : p .light .drawn ≡ lineFor (p .plan) (max 1 (nextOf ws)) .drawn
   drawn-is = ap (λ (l : Light). l .drawn) (ready .numbers .answer)
 
@@ -159,7 +159,6 @@ module _ (ws : List ℕ) (cs : List Float) (q : SignalRequest) (a : NewTrafficSi
         spare = numbers-left (a .group) refl;
         number = ap (λ (l : Light). l .signal) light-is ∙ ap (λ (b : Bool). max 1 (nextOf ws) + oneIf b) (sym drawn-is);
         lamps = leb-true (p .bulbs .count) 4 lamps-few;
-        lamps-read = ready .lamps;
         group = group-asks (a .group) refl;
       }
 
@@ -173,9 +172,9 @@ module _ (ws : List ℕ) (cs : List Float) (f : List ℕ) (t : Tally) (s : List 
     pub known : LentFine lent
     known = lent-fine lent fine
 
-    module _ (q : SignalRequest) (lanes : List ℕ) (points given : List Float) (p : SignalPlan) (ready : SignalReady ws cs q (newTrafficSignal lanes q points given) p) where
+    module _ (q : SignalRequest) (lanes : List ℕ) (points given lamps : List Float) (p : SignalPlan) (ready : SignalReady ws cs q lamps (newTrafficSignal lanes q points given lamps) p) where
       abbrev a : NewTrafficSignal
-      a = newTrafficSignal lanes q points given
+      a = newTrafficSignal lanes q points given lamps
 
       abbrev draft : Draft
       draft = signalDraft a (mapOf ws cs) p
@@ -190,7 +189,7 @@ module _ (ws : List ℕ) (cs : List Float) (f : List ℕ) (t : Tally) (s : List 
 
         late-next : p .light .late ≡ leb (2 ^ 64) (draft .map .next)
         unfolding mapOf
-        late-next = late-is ws cs q a p ready ∙ ap (leb (2 ^ 64)) (sym (next-is a (mapOf ws cs) (known .sound .map) (p .plan) (p .line) (p .housing) (p .clamped) (p .synthesized) (ready .group)))
+        late-next = late-is ws cs q lamps a p ready ∙ ap (leb (2 ^ 64)) (sym (next-is a (mapOf ws cs) (known .sound .map) (p .plan) (p .line) (p .housing) (p .clamped) (p .synthesized) (ready .group)))
 
         tried-is : (late : Bool) → p .light ≡ numbersFor late (nextOf ws) (p .plan) (a .group) → tried ≡ lightSet (numbersFor late (mapOf ws cs .next) (p .plan) (a .group)) (p .clamped) (p .synthesized) (a .lanes) (mapOf ws cs .rules)
         unfolding mapOf newTrafficSignal
@@ -215,7 +214,7 @@ module _ (ws : List ℕ) (cs : List Float) (f : List ℕ) (t : Tally) (s : List 
 
           pub store-needs : AsksToStore ws cs lanes q p
           unfolding newTrafficSignal
-          store-needs = asks-to-store ws cs q a p ready in-time (known .tables)
+          store-needs = asks-to-store ws cs q lamps a p ready in-time (known .tables)
 
           abbrev made : Light → Map
           made l = lightMap (mapOf ws cs) l (a .lanes) (pointsOf (p .line)) (newSignal a (l .signal) (pointsOf (p .housing))) (groupIn (mapOf ws cs) l)
@@ -223,16 +222,16 @@ module _ (ws : List ℕ) (cs : List Float) (f : List ℕ) (t : Tally) (s : List 
           map-stored : (ws′ : List ℕ) (cs′ : List Float) → StoredAs ws cs lanes q p ws′ cs′ → mapOf ws′ cs′ ≡ draft .map
           unfolding mapOf newTrafficSignal
           map-stored ws′ cs′ st =
-              st .map points given ∙ ap made (light-is ws cs q a p ready in-time)
+              st .map points given lamps (ready .lamps-read) ∙ ap made (light-is ws cs q lamps a p ready in-time)
               ∙ sym (map-is a (mapOf ws cs) (known .sound .map) (p .plan) (p .line) (p .housing) (p .clamped) (p .synthesized) (ready .group))
 
           id-stored : p .light .signal ≡ draft .id
           unfolding mapOf
-          id-stored = ap (λ (l : Light). l .signal) (light-is ws cs q a p ready in-time) ∙ sym (id-is a (mapOf ws cs) (known .sound .map) (p .plan) (p .line) (p .housing) (p .clamped) (p .synthesized) (ready .group))
+          id-stored = ap (λ (l : Light). l .signal) (light-is ws cs q lamps a p ready in-time) ∙ sym (id-is a (mapOf ws cs) (known .sound .map) (p .plan) (p .line) (p .housing) (p .clamped) (p .synthesized) (ready .group))
 
           module _ (t0 : List ℕ) (ht : SetDrafted ws lanes (p .light) (p .clamped) (p .synthesized) t0) where
             same-set : changeSetOf t0 ≡ draft .changes
-            same-set = ht .set cs ∙ tried-is false (light-is ws cs q a p ready in-time) ∙ sym draft-set-is
+            same-set = ht .set cs ∙ tried-is false (light-is ws cs q lamps a p ready in-time) ∙ sym draft-set-is
 
             pub taken : foldFits (foldStep (changeSetOf f) (normalize (changeSetOf t0))) ≡ true
             taken = takes lent fine draft tried (p .light .late) late-next alike r (h .settles cs) e t0 same-set
@@ -243,7 +242,7 @@ module _ (ws : List ℕ) (cs : List Float) (f : List ℕ) (t : Tally) (s : List 
 
   -- ---- the whole call
 
-  module _ (q : SignalRequest) (a : NewTrafficSignal) (r0 : Checked) (h0 : checked r0 ≡ lentChecks lent) where
+  module _ (q : SignalRequest) (lamps : List Float) (a : NewTrafficSignal) (r0 : Checked) (h0 : checked r0 ≡ lentChecks lent) where
     pub lent-turned-down : (x : Refusal) → r0 ≡ k.Refused x → (r : Called) (u : Tally) → (r ≡ c.Refused x) × (u ≡ t) → CallLeft (addTrafficSignal a) lent r (record { words = ws; coords = cs; fold = f; tally = u; set = s })
     unfolding addTrafficSignal
     lent-turned-down x e r u g = call-refused (lightEdit a) lent x (lent-refused (lightEdit a) lent x (sym h0 ∙ ap checked e)) f refl r u g
@@ -252,7 +251,7 @@ module _ (ws : List ℕ) (cs : List Float) (f : List ℕ) (t : Tally) (s : List 
       pub is-fine : lentChecks lent ≡ done tt
       is-fine = sym h0 ∙ ap checked e
 
-      module _ (p : SignalPlan) (hp : SignalPlanned ws cs q a p) where
+      module _ (p : SignalPlan) (hp : SignalPlanned ws cs q lamps a p) where
         pub plan-turned-down : (x : Refusal) → p .checked ≡ k.Refused x → (r : Called) (u : Tally) → (r ≡ c.Refused x) × (u ≡ t) → CallLeft (addTrafficSignal a) lent r (record { words = ws; coords = cs; fold = f; tally = u; set = s })
         unfolding addTrafficSignal
         plan-turned-down x d r u g = call-refused (lightEdit a) lent x (plan-refused (lightEdit a) lent is-fine x (hp .refused x d)) f refl r u g

@@ -1,6 +1,6 @@
 -- From a light's plan to the whole outcome of its call. Assumes nothing.
 use Prim.Native.Nat.{ℕ, suc, _+_, _≤_, max}
-use mathlib.Core.Path.{_≡_, refl, sym, ap, _∙_}
+use mathlib.Core.Path.{_≡_, refl, sym, ap, _∙_, subst}
 use mathlib.Core.Bool.{Bool, true, false, not, cond}
 use mathlib.Core.Option.{Option, none, some}
 use mathlib.Core.List.{List, [], _∷_, _++_}
@@ -30,7 +30,7 @@ use Rattle.place.proofs.LineLaws.{line-part}
 use Rattle.place.proofs.Sound.{readable}
 use Rattle.edit.specs.declared.SignalRequest.{SignalRequest}
 use Rattle.edit.specs.Edit.{call}
-use Rattle.edit.specs.Light.{NewTrafficSignal, Planned, Lift, kept, eased, gone, lift, easedRef, goneRef, lineDrawn, bulbsOf, newSignal, lightDraft}
+use Rattle.edit.specs.Light.{NewTrafficSignal, Planned, Lift, kept, eased, gone, lift, easedRef, goneRef, lineDrawn, newSignal, lightDraft}
 use Rattle.edit.specs.Request.{newTrafficSignal}
 use Rattle.finishing.proofs.FreshLaws.{Below, New, FoldBelow, below-all, new-all, fresh-fits}
 use Rattle.lighting.specs.declared.LinePlan.{LinePlan}
@@ -38,7 +38,7 @@ use Rattle.lighting.specs.declared.LinePlan.the-variants.{Use, NoLine, Draw}
 use Rattle.lighting.specs.Housing.{housingOf}
 use Rattle.lighting.specs.Plan.{planOf, drawnOf}
 use Rattle.signal_row.specs.declared.SignalRow.{SignalRow}
-use Rattle.signal_row.specs.Row.{RowMade}
+use Rattle.signal_row.specs.Row.{BulbsRead, RowMade}
 use Rattle.light_draft.specs.declared.Light.{Light}
 use Rattle.light_draft.specs.Drafting.{lineFor, oneIf, spent, ruleNumber, joins, numbersFor, lineIn, notes, lightSet, liftedFirst, withLight, Joinable}
 use Rattle.light_draft.proofs.DraftLaws.{rules-rise, map-order}
@@ -68,15 +68,17 @@ module _ (ws : List ℕ) (cs : List Float) (lanes : List ℕ) (q : SignalRequest
     group = asks .group;
   }
 
-  signal-is : (points housing : List Float) → signalOfParts (row .words) (coordsIn (p .housing)) (row .more) ≡ newSignal (newTrafficSignal lanes q points housing) (p .light .signal) (pointsOf (p .housing))
-  signal-is points housing =
+  signal-is : (points housing lamps : List Float) → BulbsRead q (pointsOf (p .housing)) lamps (p .bulbs)
+      → signalOfParts (row .words) (coordsIn (p .housing)) (row .more) ≡ newSignal (newTrafficSignal lanes q points housing lamps) (p .light .signal) (pointsOf (p .housing))
+  signal-is points housing lamps read =
       let e = line-part (p .housing) (asks .housing-room) in
-      made .signal lanes points housing (coordsIn (p .housing)) (record { answer = λ l x y. asks .lamps-read .answer l x y ∙ ap (λ (xs : Polyline). bulbsOf (newTrafficSignal l q x y) xs) (sym e) })
-      ∙ ap (newSignal (newTrafficSignal lanes q points housing) (p .light .signal)) e
+      made .signal lanes points housing lamps (coordsIn (p .housing)) (subst (λ (xs : Polyline). BulbsRead q xs lamps (p .bulbs)) (sym e) read)
+      ∙ ap (newSignal (newTrafficSignal lanes q points housing lamps) (p .light .signal)) e
 
   pub stored-as : (ws′ : List ℕ) (cs′ : List Float) → LightStored ws cs lanes (p .light) (p .line) (p .housing) row ws′ cs′ → StoredAs ws cs lanes q p ws′ cs′
   stored-as ws′ cs′ h = record {
-    map = λ points housing. h .map ∙ ap (λ (s : Signal). lightMap (mapOf ws cs) (p .light) lanes (pointsOf (p .line)) s (groupIn (mapOf ws cs) (p .light))) (signal-is points housing);
+    map = λ points housing lamps read.
+        h .map ∙ ap (λ (s : Signal). lightMap (mapOf ws cs) (p .light) lanes (pointsOf (p .line)) s (groupIn (mapOf ws cs) (p .light))) (signal-is points housing lamps read);
   }
 
 -- ---- numbers

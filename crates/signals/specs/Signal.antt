@@ -39,9 +39,8 @@ pub record AsksToStore (ws : List ℕ) (cs : List Float) (lanes : List ℕ) (q :
   pub spare : max 1 (nextOf ws) + oneIf (p .light .drawn) + oneIf (not (p .light .joins)) < 2 ^ 64 - 1
   pub number : p .light .signal ≡ max 1 (nextOf ws) + oneIf (p .light .drawn)
   pub lamps : p .bulbs .count ≤ 4
-  pub lamps-read : BulbsRead q (pointsOf (p .housing)) (p .bulbs)
   pub group : p .light .joins ≡ true → GroupAsks (mapOf ws cs) (p .light .rule) lanes (p .joined)
 
 pub record StoredAs (ws : List ℕ) (cs : List Float) (lanes : List ℕ) (q : SignalRequest) (p : SignalPlan) (ws′ : List ℕ) (cs′ : List Float) : Type 0 where
-  pub map : (points housing : List Float) → mapOf ws′ cs′
-      ≡ lightMap (mapOf ws cs) (p .light) lanes (pointsOf (p .line)) (newSignal (newTrafficSignal lanes q points housing) (p .light .signal) (pointsOf (p .housing))) (groupIn (mapOf ws cs) (p .light))
+  pub map : (points housing lamps : List Float) → BulbsRead q (pointsOf (p .housing)) lamps (p .bulbs) → mapOf ws′ cs′
+      ≡ lightMap (mapOf ws cs) (p .light) lanes (pointsOf (p .line)) (newSignal (newTrafficSignal lanes q points housing lamps) (p .light .signal) (pointsOf (p .housing))) (groupIn (mapOf ws cs) (p .light))

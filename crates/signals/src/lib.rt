@@ -70,10 +70,11 @@ fn carry_out(
     q: SignalRequest,
     points: &[f64],
     given: &[f64],
+    lamps: &[f64],
     p: SignalPlan,
 ) -> Answered
-    requires { ⌜ (lentChecks (record { words = now words; coords = now coords; fold = now fold; tally = tally; set = now set }) ≡ done tt) × SignalReady (now words) (now coords) q (newTrafficSignal (now lanes) q (now points) (now given)) p ⌝ }
-    ensures { λ r. ⌜ CallEnds (record { words = now (words .entry); coords = now (coords .entry); fold = now (fold .entry); tally = tally; set = now (set .entry) }) (signalDraft (newTrafficSignal (now (lanes .entry)) q (now (points .entry)) (now (given .entry))) (mapOf (now (words .entry)) (now (coords .entry))) p) (r .called) (record { words = now (words .exit); coords = now (coords .exit); fold = now (fold .exit); tally = r .tally; set = now (set .exit) }) ⌝ }
+    requires { ⌜ (lentChecks (record { words = now words; coords = now coords; fold = now fold; tally = tally; set = now set }) ≡ done tt) × SignalReady (now words) (now coords) q (now lamps) (newTrafficSignal (now lanes) q (now points) (now given) (now lamps)) p ⌝ }
+    ensures { λ r. ⌜ CallEnds (record { words = now (words .entry); coords = now (coords .entry); fold = now (fold .entry); tally = tally; set = now (set .entry) }) (signalDraft (newTrafficSignal (now (lanes .entry)) q (now (points .entry)) (now (given .entry)) (now (lamps .entry))) (mapOf (now (words .entry)) (now (coords .entry))) p) (r .called) (record { words = now (words .exit); coords = now (coords .exit); fold = now (fold .exit); tally = r .tally; set = now (set .exit) }) ⌝ }
 {
     let l = p.light;
     let settled = check_fold(words, fold, lanes, l, p.clamped, p.synthesized);
@@ -89,7 +90,8 @@ fn carry_out(
     }
 }
 
-// The light stops at the line that is chosen, found or drawn, and lifts what its lanes had there. Answers the signal's number.
+// The light stops at the line that is chosen, found or drawn, and lifts what its lanes had there. Answers the signal's number. Given
+// points, a given housing and given lamps come beside the request, as coordinates.
 pub fn add_traffic_signal(
     words: &mut [u64],
     coords: &mut [f64],
@@ -100,14 +102,15 @@ pub fn add_traffic_signal(
     q: SignalRequest,
     points: &[f64],
     housing: &[f64],
+    lamps: &[f64],
 ) -> Answered
-    ensures { λ r. ⌜ CallLeft (addTrafficSignal (newTrafficSignal (now (lanes .entry)) q (now (points .entry)) (now (housing .entry)))) (record { words = now (words .entry); coords = now (coords .entry); fold = now (fold .entry); tally = tally; set = now (set .entry) }) (r .called) (record { words = now (words .exit); coords = now (coords .exit); fold = now (fold .exit); tally = r .tally; set = now (set .exit) }) ⌝ }
+    ensures { λ r. ⌜ CallLeft (addTrafficSignal (newTrafficSignal (now (lanes .entry)) q (now (points .entry)) (now (housing .entry)) (now (lamps .entry)))) (record { words = now (words .entry); coords = now (coords .entry); fold = now (fold .entry); tally = tally; set = now (set .entry) }) (r .called) (record { words = now (words .exit); coords = now (coords .exit); fold = now (fold .exit); tally = r .tally; set = now (set .exit) }) ⌝ }
 {
     let lent = finishing::check_lent(words, coords, fold, tally, set);
     if let Checked::Refused(r) = lent {
         return finishing::refused(r, tally);
     }
-    let p = signal_plan(words, coords, lanes, q, points, housing);
+    let p = signal_plan(words, coords, lanes, q, points, housing, lamps);
     let checked = p.checked;
     if let Checked::Refused(r) = checked {
         return finishing::refused(r, tally);
@@ -122,6 +125,7 @@ pub fn add_traffic_signal(
         q,
         points,
         housing,
+        lamps,
         p,
     )
 }

@@ -68,25 +68,25 @@ use Rattle.lent_tally_signal.proofs.add_traffic_signal.Code as code
 
 -- the tally is still lent at exit; the four slices that are written were handed on for good
 abbrev stayed : Stays (add-traffic-signal.ended .signature .params) (add-traffic-signal.ended .kept)
-stayed = (gave-slice (0 ∷ []) tt (plain (λ _. u64)), (gave-slice (1 ∷ []) tt (plain (λ _. f64)), (gave-slice (2 ∷ []) tt (plain (λ _. u64)), (stay-ref (3 ∷ []) tt (plain (λ _. T.the-row)), (gave-slice (4 ∷ []) tt (plain (λ _. u64)), (stay-none-slice (5 ∷ []) tt (plain (λ _. u64)) yes, (stay-none (λ _. P₇.the-row) yes, (stay-none-slice (6 ∷ []) tt (plain (λ _. f64)) yes, (stay-none-slice (7 ∷ []) tt (plain (λ _. f64)) yes, tt)))))))))
+stayed = (gave-slice (0 ∷ []) tt (plain (λ _. u64)), (gave-slice (1 ∷ []) tt (plain (λ _. f64)), (gave-slice (2 ∷ []) tt (plain (λ _. u64)), (stay-ref (3 ∷ []) tt (plain (λ _. T.the-row)), (gave-slice (4 ∷ []) tt (plain (λ _. u64)), (stay-none-slice (5 ∷ []) tt (plain (λ _. u64)) yes, (stay-none (λ _. P₇.the-row) yes, (stay-none-slice (6 ∷ []) tt (plain (λ _. f64)) yes, (stay-none-slice (7 ∷ []) tt (plain (λ _. f64)) yes, (stay-none-slice (8 ∷ []) tt (plain (λ _. f64)) yes, tt))))))))))
 
 abbrev Callee : {M : Type 1} (𝓤 : URA M) (H : Heap 𝓤) (A : Atoms 𝓤) (at-mem : Memory → SProp 𝓤) (run : Routine → Fun 𝓤) → Contract 𝓤
 Callee 𝓤 H A at-mem run = tripleOf 𝓤 H A callee.signature (callee.spec 𝓤 H A at-mem run)
 
-module _ {M : Type 1} (𝓤 : URA M) (H : Heap 𝓤) (A : Atoms 𝓤) (W : Given 𝓤 H A) (at-mem : Memory → SProp 𝓤) (run : Routine → Fun 𝓤) (κ₀ κ₁ κ₂ κ₃ κ₄ κ₅ κ₆ κ₇ : Lft) (q₀ q₁ q₂ q₃ q₄ q₅ q₆ q₇ : Share)
-    (x₁ : RefT (List ℕ)) (x₂ : RefT (List Float)) (x₃ : RefT (List ℕ)) (b o : ℕ) (γ : GName) (t : Tally) (x₅ : RefT (List ℕ)) (x₆ : RefT (List ℕ)) (x₇ : SignalRequest) (v₇ : Val) (x₈ : RefT (List Float)) (x₉ : RefT (List Float)) where
-  abbrev κs : Lfts 8
-  κs = (κ₀, (κ₁, (κ₂, (κ₃, (κ₄, (κ₅, (κ₆, (κ₇, tt))))))))
+module _ {M : Type 1} (𝓤 : URA M) (H : Heap 𝓤) (A : Atoms 𝓤) (W : Given 𝓤 H A) (at-mem : Memory → SProp 𝓤) (run : Routine → Fun 𝓤) (κ₀ κ₁ κ₂ κ₃ κ₄ κ₅ κ₆ κ₇ κ₈ : Lft) (q₀ q₁ q₂ q₃ q₄ q₅ q₆ q₇ q₈ : Share)
+    (x₁ : RefT (List ℕ)) (x₂ : RefT (List Float)) (x₃ : RefT (List ℕ)) (b o : ℕ) (γ : GName) (t : Tally) (x₅ : RefT (List ℕ)) (x₆ : RefT (List ℕ)) (x₇ : SignalRequest) (v₇ : Val) (x₈ : RefT (List Float)) (x₉ : RefT (List Float)) (x₁₀ : RefT (List Float)) where
+  abbrev κs : Lfts 9
+  κs = (κ₀, (κ₁, (κ₂, (κ₃, (κ₄, (κ₅, (κ₆, (κ₇, (κ₈, tt)))))))))
 
-  abbrev qs : Shares 8
-  qs = (q₀, (q₁, (q₂, (q₃, (q₄, (q₅, (q₆, (q₇, tt))))))))
+  abbrev qs : Shares 9
+  qs = (q₀, (q₁, (q₂, (q₃, (q₄, (q₅, (q₆, (q₇, (q₈, tt)))))))))
 
   -- the lifetimes of the callee: all but the tally's
-  abbrev κs′ : Lfts 7
-  κs′ = (κ₀, (κ₁, (κ₂, (κ₄, (κ₅, (κ₆, (κ₇, tt)))))))
+  abbrev κs′ : Lfts 8
+  κs′ = (κ₀, (κ₁, (κ₂, (κ₄, (κ₅, (κ₆, (κ₇, (κ₈, tt))))))))
 
-  abbrev qs′ : Shares 7
-  qs′ = (q₀, (q₁, (q₂, (q₄, (q₅, (q₆, (q₇, tt)))))))
+  abbrev qs′ : Shares 8
+  qs′ = (q₀, (q₁, (q₂, (q₄, (q₅, (q₆, (q₇, (q₈, tt))))))))
 
   -- the machine values of the tally and of what is passed
   abbrev mach : Val
@@ -113,24 +113,27 @@ module _ {M : Type 1} (𝓤 : URA M) (H : Heap 𝓤) (A : Atoms 𝓤) (W : Given
   abbrev v₉ : Val
   v₉ = sliceVal (x₉ .ptr) (length (x₉ .now))
 
+  abbrev v₁₀ : Val
+  v₁₀ = sliceVal (x₁₀ .ptr) (length (x₁₀ .now))
+
   abbrev ref : RefT Tally
   ref = record { ptr = (b, o); name = γ; now = t }
 
   abbrev args : Args add-traffic-signal.signature κs
-  args = (x₁, (x₂, (x₃, (ref, (x₅, (x₆, (x₇, (x₈, (x₉, tt)))))))))
+  args = (x₁, (x₂, (x₃, (ref, (x₅, (x₆, (x₇, (x₈, (x₉, (x₁₀, tt))))))))))
 
   abbrev vals : Vals add-traffic-signal.signature κs
-  vals = (v₁ ∷ [], (v₂ ∷ [], (v₃ ∷ [], (vptr b o ∷ [], (v₅ ∷ [], (v₆ ∷ [], (v₇ ∷ [], (v₈ ∷ [], (v₉ ∷ [], tt)))))))))
+  vals = (v₁ ∷ [], (v₂ ∷ [], (v₃ ∷ [], (vptr b o ∷ [], (v₅ ∷ [], (v₆ ∷ [], (v₇ ∷ [], (v₈ ∷ [], (v₉ ∷ [], (v₁₀ ∷ [], tt))))))))))
 
   abbrev args′ : Args callee.signature κs′
-  args′ = (x₁, (x₂, (x₃, (t, (x₅, (x₆, (x₇, (x₈, (x₉, tt)))))))))
+  args′ = (x₁, (x₂, (x₃, (t, (x₅, (x₆, (x₇, (x₈, (x₉, (x₁₀, tt))))))))))
 
   abbrev vals′ : Vals callee.signature κs′
-  vals′ = (v₁ ∷ [], (v₂ ∷ [], (v₃ ∷ [], (mach ∷ [], (v₅ ∷ [], (v₆ ∷ [], (v₇ ∷ [], (v₈ ∷ [], (v₉ ∷ [], tt)))))))))
+  vals′ = (v₁ ∷ [], (v₂ ∷ [], (v₃ ∷ [], (mach ∷ [], (v₅ ∷ [], (v₆ ∷ [], (v₇ ∷ [], (v₈ ∷ [], (v₉ ∷ [], (v₁₀ ∷ [], tt))))))))))
 
   -- what is known of the answer, with the memory as it is left
   abbrev Left : Lent → Called → Type 0
-  Left new c = CallLeft (addTrafficSignal (newTrafficSignal (now x₆) x₇ (now x₈) (now x₉))) (record { words = now x₁; coords = now x₂; fold = now x₃; tally = t; set = now x₅ }) c new
+  Left new c = CallLeft (addTrafficSignal (newTrafficSignal (now x₆) x₇ (now x₈) (now x₉) (now x₁₀))) (record { words = now x₁; coords = now x₂; fold = now x₃; tally = t; set = now x₅ }) c new
 
   abbrev at-entry : walkOf 𝓤 H A add-traffic-signal.ended stayed (add-traffic-signal.clauses 𝓤 H A at-mem run) .Ghost
   at-entry = ((κs, qs, tt, args, vals), tt)
@@ -143,11 +146,11 @@ module _ {M : Type 1} (𝓤 : URA M) (H : Heap 𝓤) (A : Atoms 𝓤) (W : Given
 
   -- what is only read
   abbrev Read : Fml
-  Read = owns (ShrSlice (named 5) κ₅ u64 ∷ P₇.the-row ∷ ShrSlice (named 6) κ₆ f64 ∷ ShrSlice (named 7) κ₇ f64 ∷ []) (x₆, (x₇, (x₈, (x₉, tt)))) (v₆ ∷ [], (v₇ ∷ [], (v₈ ∷ [], (v₉ ∷ [], tt))))
+  Read = owns (ShrSlice (named 5) κ₅ u64 ∷ P₇.the-row ∷ ShrSlice (named 6) κ₆ f64 ∷ ShrSlice (named 7) κ₇ f64 ∷ ShrSlice (named 8) κ₈ f64 ∷ []) (x₆, (x₇, (x₈, (x₉, (x₁₀, tt))))) (v₆ ∷ [], (v₇ ∷ [], (v₈ ∷ [], (v₉ ∷ [], (v₁₀ ∷ [], tt)))))
 
   -- what the callee is handed
   abbrev Handed : SProp 𝓤
-  Handed = ⋆ 𝓤 H A ((‵ (flft κ₀ q₀) ⊛ (‵ (flft κ₁ q₁) ⊛ (‵ (flft κ₂ q₂) ⊛ (‵ (flft κ₄ q₄) ⊛ (‵ (flft κ₅ q₅) ⊛ (‵ (flft κ₆ q₆) ⊛ (‵ (flft κ₇ q₇) ⊛ ‵ ftrue))))))) ∷ ‵ (MutSlice (named 0) κ₀ u64 .own x₁ (v₁ ∷ [])) ∷ ‵ (MutSlice (named 1) κ₁ f64 .own x₂ (v₂ ∷ [])) ∷ ‵ (MutSlice (named 2) κ₂ u64 .own x₃ (v₃ ∷ [])) ∷ ‵ (MutSlice (named 4) κ₄ u64 .own x₅ (v₅ ∷ [])) ∷ ‵ Read ∷ [])
+  Handed = ⋆ 𝓤 H A ((‵ (flft κ₀ q₀) ⊛ (‵ (flft κ₁ q₁) ⊛ (‵ (flft κ₂ q₂) ⊛ (‵ (flft κ₄ q₄) ⊛ (‵ (flft κ₅ q₅) ⊛ (‵ (flft κ₆ q₆) ⊛ (‵ (flft κ₇ q₇) ⊛ (‵ (flft κ₈ q₈) ⊛ ‵ ftrue)))))))) ∷ ‵ (MutSlice (named 0) κ₀ u64 .own x₁ (v₁ ∷ [])) ∷ ‵ (MutSlice (named 1) κ₁ f64 .own x₂ (v₂ ∷ [])) ∷ ‵ (MutSlice (named 2) κ₂ u64 .own x₃ (v₃ ∷ [])) ∷ ‵ (MutSlice (named 4) κ₄ u64 .own x₅ (v₅ ∷ [])) ∷ ‵ Read ∷ [])
 
   abbrev Lending : Fml
   Lending = fbor κ₃ (Body (mem T.the-row) b o γ)
@@ -159,12 +162,13 @@ module _ {M : Type 1} (𝓤 : URA M) (H : Heap 𝓤) (A : Atoms 𝓤) (W : Given
       move ! (2 ∷ []) $ fsplit ! $ use1 W (‵ (P₇.the-row .own x₇ (v₇ ∷ [])) ⊛ ‵ (P₇.the-row .own x₇ (v₇ ∷ []))) (LL.copy P₇.the-type P₇′.the-copy 𝓤 H A W .twice x₇ (v₇ ∷ [])) $ split ! $
       move ! (2 ∷ []) $ fsplit ! $ use1 W (‵ (ShrSlice (named 6) κ₆ f64 .own x₈ (v₈ ∷ [])) ⊛ ‵ (ShrSlice (named 6) κ₆ f64 .own x₈ (v₈ ∷ []))) (shr-slice-copy 𝓤 H A W (named 6) κ₆ f64 .twice x₈ (v₈ ∷ [])) $ split ! $
       move ! (2 ∷ []) $ fsplit ! $ use1 W (‵ (ShrSlice (named 7) κ₇ f64 .own x₉ (v₉ ∷ [])) ⊛ ‵ (ShrSlice (named 7) κ₇ f64 .own x₉ (v₉ ∷ []))) (shr-slice-copy 𝓤 H A W (named 7) κ₇ f64 .twice x₉ (v₉ ∷ [])) $ split ! $
-      move ! (0 ∷ 2 ∷ []) $ fjoin ! $ move ! (2 ∷ 0 ∷ []) $ fjoin ! $ move ! (3 ∷ 0 ∷ []) $ fjoin ! $ move ! (4 ∷ 0 ∷ []) $ fjoin ! $ frame ! $
-      nothing ! $ move ! (1 ∷ 0 ∷ []) $ fjoin ! $ move ! (1 ∷ 0 ∷ []) $ fjoin ! $ move ! (1 ∷ 0 ∷ []) $ fjoin ! $ move ! (1 ∷ 0 ∷ []) $ fjoin ! $ done !
+      move ! (2 ∷ []) $ fsplit ! $ use1 W (‵ (ShrSlice (named 8) κ₈ f64 .own x₁₀ (v₁₀ ∷ [])) ⊛ ‵ (ShrSlice (named 8) κ₈ f64 .own x₁₀ (v₁₀ ∷ []))) (shr-slice-copy 𝓤 H A W (named 8) κ₈ f64 .twice x₁₀ (v₁₀ ∷ [])) $ split ! $
+      move ! (0 ∷ 2 ∷ []) $ fjoin ! $ move ! (2 ∷ 0 ∷ []) $ fjoin ! $ move ! (3 ∷ 0 ∷ []) $ fjoin ! $ move ! (4 ∷ 0 ∷ []) $ fjoin ! $ move ! (5 ∷ 0 ∷ []) $ fjoin ! $ frame ! $
+      nothing ! $ move ! (1 ∷ 0 ∷ []) $ fjoin ! $ move ! (1 ∷ 0 ∷ []) $ fjoin ! $ move ! (1 ∷ 0 ∷ []) $ fjoin ! $ move ! (1 ∷ 0 ∷ []) $ fjoin ! $ move ! (1 ∷ 0 ∷ []) $ fjoin ! $ done !
 
   apart : ent 𝓤 (onEntry 𝓤 H A add-traffic-signal.signature κs qs args vals) (⋆ 𝓤 H A (‵ (fobs γ (T.the-row .coded .code t)) ∷ ‵ Lending ∷ ‵ (flft κ₃ q₃) ∷ ‵ Read ∷ raw Handed ∷ []))
   apart =
-      qed W ((‵ (flft κ₀ q₀) ⊛ (‵ (flft κ₁ q₁) ⊛ (‵ (flft κ₂ q₂) ⊛ (‵ (flft κ₃ q₃) ⊛ (‵ (flft κ₄ q₄) ⊛ (‵ (flft κ₅ q₅) ⊛ (‵ (flft κ₆ q₆) ⊛ (‵ (flft κ₇ q₇) ⊛ ‵ ftrue)))))))) ∷ ‵ (owns (MutSlice (named 0) κ₀ u64 ∷ MutSlice (named 1) κ₁ f64 ∷ MutSlice (named 2) κ₂ u64 ∷ MutRef (named 3) κ₃ T.the-row ∷ MutSlice (named 4) κ₄ u64 ∷ ShrSlice (named 5) κ₅ u64 ∷ P₇.the-row ∷ ShrSlice (named 6) κ₆ f64 ∷ ShrSlice (named 7) κ₇ f64 ∷ []) args vals) ∷ []) ∵
+      qed W ((‵ (flft κ₀ q₀) ⊛ (‵ (flft κ₁ q₁) ⊛ (‵ (flft κ₂ q₂) ⊛ (‵ (flft κ₃ q₃) ⊛ (‵ (flft κ₄ q₄) ⊛ (‵ (flft κ₅ q₅) ⊛ (‵ (flft κ₆ q₆) ⊛ (‵ (flft κ₇ q₇) ⊛ (‵ (flft κ₈ q₈) ⊛ ‵ ftrue))))))))) ∷ ‵ (owns (MutSlice (named 0) κ₀ u64 ∷ MutSlice (named 1) κ₁ f64 ∷ MutSlice (named 2) κ₂ u64 ∷ MutRef (named 3) κ₃ T.the-row ∷ MutSlice (named 4) κ₄ u64 ∷ ShrSlice (named 5) κ₅ u64 ∷ P₇.the-row ∷ ShrSlice (named 6) κ₆ f64 ∷ ShrSlice (named 7) κ₇ f64 ∷ ShrSlice (named 8) κ₈ f64 ∷ []) args vals) ∷ []) ∵
       move ! (1 ∷ []) $ fsplit ! $ move ! (1 ∷ []) $ fsplit ! $ move ! (1 ∷ []) $ fsplit ! $ move ! (1 ∷ []) $ fsplit ! $ fsplit3 ! $ drop ! $ move ! (2 ∷ []) $ fsplit ! $
       move ! (1 ∷ []) $ use1 W (‵ Read ⊛ ‵ Read) read-twice $ split ! $
       -- [read; read; the set; the tally's lending (2); the fold; the coordinates; the words; the tokens]
@@ -174,14 +178,14 @@ module _ {M : Type 1} (𝓤 : URA M) (H : Heap 𝓤) (A : Atoms 𝓤) (W : Given
 
   asked : Is T.the-row t (mach ∷ []) → ent 𝓤 Handed (Callee 𝓤 H A at-mem run .pre to)
   asked is =
-      qed W ((‵ (flft κ₀ q₀) ⊛ (‵ (flft κ₁ q₁) ⊛ (‵ (flft κ₂ q₂) ⊛ (‵ (flft κ₄ q₄) ⊛ (‵ (flft κ₅ q₅) ⊛ (‵ (flft κ₆ q₆) ⊛ (‵ (flft κ₇ q₇) ⊛ ‵ ftrue))))))) ∷ ‵ (MutSlice (named 0) κ₀ u64 .own x₁ (v₁ ∷ [])) ∷ ‵ (MutSlice (named 1) κ₁ f64 .own x₂ (v₂ ∷ [])) ∷ ‵ (MutSlice (named 2) κ₂ u64 .own x₃ (v₃ ∷ [])) ∷ ‵ (MutSlice (named 4) κ₄ u64 .own x₅ (v₅ ∷ [])) ∷ ‵ Read ∷ []) ∵
+      qed W ((‵ (flft κ₀ q₀) ⊛ (‵ (flft κ₁ q₁) ⊛ (‵ (flft κ₂ q₂) ⊛ (‵ (flft κ₄ q₄) ⊛ (‵ (flft κ₅ q₅) ⊛ (‵ (flft κ₆ q₆) ⊛ (‵ (flft κ₇ q₇) ⊛ (‵ (flft κ₈ q₈) ⊛ ‵ ftrue)))))))) ∷ ‵ (MutSlice (named 0) κ₀ u64 .own x₁ (v₁ ∷ [])) ∷ ‵ (MutSlice (named 1) κ₁ f64 .own x₂ (v₂ ∷ [])) ∷ ‵ (MutSlice (named 2) κ₂ u64 .own x₃ (v₃ ∷ [])) ∷ ‵ (MutSlice (named 4) κ₄ u64 .own x₅ (v₅ ∷ [])) ∷ ‵ Read ∷ []) ∵
       move ! (4 ∷ 5 ∷ []) $ fjoin ! $ owned ! T.the-row (Is T.the-row) (LL.makes T.the-type T′.the-plain 𝓤 H A) t _ is $ fjoin ! $
       move ! (4 ∷ 0 ∷ []) $ fjoin ! $ move ! (3 ∷ 0 ∷ []) $ fjoin ! $ move ! (2 ∷ 0 ∷ []) $ fjoin ! $ move ! (1 ∷ 0 ∷ []) $ join ! $ frame ! $ done !
 
   -- ---- what the callee leaves: the slices' last lists, and its answer
 
   abbrev Lasts : Type 0
-  Lasts = List ℕ × (List Float × (List ℕ × (Unit {0} × (List ℕ × (Unit {0} × (Unit {0} × (Unit {0} × (Unit {0} × Unit {0}))))))))
+  Lasts = List ℕ × (List Float × (List ℕ × (Unit {0} × (List ℕ × (Unit {0} × (Unit {0} × (Unit {0} × (Unit {0} × (Unit {0} × Unit {0})))))))))
 
   abbrev Found : Answered → Lasts → Type 0
   Found r zs = Left (record { words = zs .0; coords = zs .1 .0; fold = zs .1 .1 .0; tally = r .tally; set = zs .1 .1 .1 .1 .0 }) (r .called)
@@ -190,12 +194,12 @@ module _ {M : Type 1} (𝓤 : URA M) (H : Heap 𝓤) (A : Atoms 𝓤) (W : Given
   Known u r zs = Found r zs × Is N.the-row r (u ∷ []) × (length (zs .0) ≡ length (now x₁)) × (length (zs .1 .0) ≡ length (now x₂)) × (length (zs .1 .1 .0) ≡ length (now x₃)) × (length (zs .1 .1 .1 .1 .0) ≡ length (now x₅))
 
   abbrev Back : Lasts → SProp 𝓤
-  Back zs = ⋆ 𝓤 H A ((‵ (flft κ₀ q₀) ⊛ (‵ (flft κ₁ q₁) ⊛ (‵ (flft κ₂ q₂) ⊛ (‵ (flft κ₄ q₄) ⊛ (‵ (flft κ₅ q₅) ⊛ (‵ (flft κ₆ q₆) ⊛ (‵ (flft κ₇ q₇) ⊛ ‵ ftrue))))))) ∷ ‵ (finally u64 (x₁ .name) (zs .0)) ∷ ‵ (finally f64 (x₂ .name) (zs .1 .0)) ∷ ‵ (finally u64 (x₃ .name) (zs .1 .1 .0)) ∷ ‵ (finally u64 (x₅ .name) (zs .1 .1 .1 .1 .0)) ∷ [])
+  Back zs = ⋆ 𝓤 H A ((‵ (flft κ₀ q₀) ⊛ (‵ (flft κ₁ q₁) ⊛ (‵ (flft κ₂ q₂) ⊛ (‵ (flft κ₄ q₄) ⊛ (‵ (flft κ₅ q₅) ⊛ (‵ (flft κ₆ q₆) ⊛ (‵ (flft κ₇ q₇) ⊛ (‵ (flft κ₈ q₈) ⊛ ‵ ftrue)))))))) ∷ ‵ (finally u64 (x₁ .name) (zs .0)) ∷ ‵ (finally f64 (x₂ .name) (zs .1 .0)) ∷ ‵ (finally u64 (x₃ .name) (zs .1 .1 .0)) ∷ ‵ (finally u64 (x₅ .name) (zs .1 .1 .1 .1 .0)) ∷ [])
 
   said : (u : Val) → ent 𝓤 (Callee 𝓤 H A at-mem run .post to u) (H .⇛ (ex 𝓤 (λ (r : Answered). ex 𝓤 (λ (zs : Lasts). guard 𝓤 (Known u r zs) (Back zs)))))
   said u =
       qed W (raw (Callee 𝓤 H A at-mem run .post to u) ∷ []) ∵ updating ! $
-      use1 W (later (some (λ (r : Answered). ((‵ (flft κ₀ q₀) ⊛ (‵ (flft κ₁ q₁) ⊛ (‵ (flft κ₂ q₂) ⊛ (‵ (flft κ₄ q₄) ⊛ (‵ (flft κ₅ q₅) ⊛ (‵ (flft κ₆ q₆) ⊛ (‵ (flft κ₇ q₇) ⊛ ‵ ftrue))))))) ⊛ ‵ (N.the-row .own r (u ∷ []))) ⊛ raw (ensured 𝓤 H A callee.ended (callee.clauses 𝓤 H A at-mem run) κs′ args′ tt r)))) (id⊢ 𝓤 _) $ await ! tt $ pick ! (λ r.
+      use1 W (later (some (λ (r : Answered). ((‵ (flft κ₀ q₀) ⊛ (‵ (flft κ₁ q₁) ⊛ (‵ (flft κ₂ q₂) ⊛ (‵ (flft κ₄ q₄) ⊛ (‵ (flft κ₅ q₅) ⊛ (‵ (flft κ₆ q₆) ⊛ (‵ (flft κ₇ q₇) ⊛ (‵ (flft κ₈ q₈) ⊛ ‵ ftrue)))))))) ⊛ ‵ (N.the-row .own r (u ∷ []))) ⊛ raw (ensured 𝓤 H A callee.ended (callee.clauses 𝓤 H A at-mem run) κs′ args′ tt r)))) (id⊢ 𝓤 _) $ await ! tt $ pick ! (λ r.
       split ! $ move ! (1 ∷ []) $ use1 W (some (λ (zs : Lasts). ‵ (lasts callee.ended κs′ args′ zs) ⊛ raw (fact 𝓤 (Found r zs)))) (id⊢ 𝓤 _) $ pick ! (λ zs. split ! $ move ! (1 ∷ []) $ heard ! (Found r zs) (λ e.
       fsplit ! $ fsplit ! $ move ! (1 ∷ []) $ feqL ! (λ lw. move ! (1 ∷ []) $ fsplit ! $ fsplit ! $ move ! (1 ∷ []) $ feqL ! (λ lc. move ! (1 ∷ []) $ fsplit ! $ fsplit ! $ move ! (1 ∷ []) $ feqL ! (λ lf. move ! (1 ∷ []) $ fsplit ! $ drop ! $
       fsplit ! $ fsplit ! $ move ! (1 ∷ []) $ feqL ! (λ ls. move ! (1 ∷ []) $ drop ! $ move ! (4 ∷ []) $ split ! $ move ! (1 ∷ []) $
@@ -208,8 +212,8 @@ module _ {M : Type 1} (𝓤 : URA M) (H : Heap 𝓤) (A : Atoms 𝓤) (W : Given
   exits r u c zs k is =
       qed W (‵ (fobs γ (T.the-row .coded .code (r .tally))) ∷ ‵ Lending ∷ ‵ (flft κ₃ q₃) ∷ raw (Back zs) ∷ ‵ Read ∷ []) ∵
       suffices ! _ (ends-at 𝓤 H A add-traffic-signal.ended stayed (add-traffic-signal.clauses 𝓤 H A at-mem run) W at-entry c (r .called)
-      (zs .0, (zs .1 .0, (zs .1 .1 .0, (r .tally, (zs .1 .1 .1 .1 .0, (tt, (tt, (tt, (tt, tt))))))))) (k .2, (k .3, (k .4, (tt, (k .5, (tt, (tt, (tt, (tt, tt)))))))))) $ says ! (k .0) $
-      move ! (3 ∷ []) $ use1 W ((‵ (flft κ₀ q₀) ⊛ (‵ (flft κ₁ q₁) ⊛ (‵ (flft κ₂ q₂) ⊛ (‵ (flft κ₄ q₄) ⊛ (‵ (flft κ₅ q₅) ⊛ (‵ (flft κ₆ q₆) ⊛ (‵ (flft κ₇ q₇) ⊛ ‵ ftrue))))))) ⊛ (‵ (finally u64 (x₁ .name) (zs .0)) ⊛ (‵ (finally f64 (x₂ .name) (zs .1 .0)) ⊛ (‵ (finally u64 (x₃ .name) (zs .1 .1 .0)) ⊛ ‵ (finally u64 (x₅ .name) (zs .1 .1 .1 .1 .0)))))) (id⊢ 𝓤 _) $ split ! $ move ! (1 ∷ []) $ split ! $ move ! (1 ∷ []) $ split ! $ move ! (1 ∷ []) $ split ! $
+      (zs .0, (zs .1 .0, (zs .1 .1 .0, (r .tally, (zs .1 .1 .1 .1 .0, (tt, (tt, (tt, (tt, (tt, tt)))))))))) (k .2, (k .3, (k .4, (tt, (k .5, (tt, (tt, (tt, (tt, (tt, tt))))))))))) $ says ! (k .0) $
+      move ! (3 ∷ []) $ use1 W ((‵ (flft κ₀ q₀) ⊛ (‵ (flft κ₁ q₁) ⊛ (‵ (flft κ₂ q₂) ⊛ (‵ (flft κ₄ q₄) ⊛ (‵ (flft κ₅ q₅) ⊛ (‵ (flft κ₆ q₆) ⊛ (‵ (flft κ₇ q₇) ⊛ (‵ (flft κ₈ q₈) ⊛ ‵ ftrue)))))))) ⊛ (‵ (finally u64 (x₁ .name) (zs .0)) ⊛ (‵ (finally f64 (x₂ .name) (zs .1 .0)) ⊛ (‵ (finally u64 (x₃ .name) (zs .1 .1 .0)) ⊛ ‵ (finally u64 (x₅ .name) (zs .1 .1 .1 .1 .0)))))) (id⊢ 𝓤 _) $ split ! $ move ! (1 ∷ []) $ split ! $ move ! (1 ∷ []) $ split ! $ move ! (1 ∷ []) $ split ! $
       owned ! S.the-row (Is S.the-row) (EL.makes S.the-type S′.the-plain 𝓤 H A) (r .called) _ is $ move ! (6 ∷ 7 ∷ 8 ∷ 0 ∷ 5 ∷ 4 ∷ 3 ∷ 1 ∷ 2 ∷ 9 ∷ []) $
       -- [the tally's lending (2) and its token; the answer; the other tokens; the words, the coordinates, the fold and the set; what is read]
       move ! (4 ∷ []) $ split ! $ move ! (1 ∷ []) $ split ! $ move ! (1 ∷ []) $ split ! $
@@ -218,66 +222,67 @@ module _ {M : Type 1} (𝓤 : URA M) (H : Heap 𝓤) (A : Atoms 𝓤) (W : Given
       move ! (4 ∷ 0 ∷ []) $ fjoin ! $ move ! (3 ∷ 0 ∷ []) $ fjoin ! $ move ! (2 ∷ 0 ∷ []) $ fjoin ! $ frame ! $ done !
 
   module _ (C : Calls 𝓤 H) (Λ : Loops 𝓤 H) (fm : FmC 𝓤 H (W .laws) C) (known : Triple 𝓤 (C #signals·add-traffic-signal) (Callee 𝓤 H A at-mem run)) where
-    walk : Is (MutSlice (named 0) κ₀ u64) x₁ (v₁ ∷ []) → Is (MutSlice (named 1) κ₁ f64) x₂ (v₂ ∷ []) → Is (MutSlice (named 2) κ₂ u64) x₃ (v₃ ∷ []) → Is (MutSlice (named 4) κ₄ u64) x₅ (v₅ ∷ []) → Is (ShrSlice (named 5) κ₅ u64) x₆ (v₆ ∷ []) → Is (P₇.the-row) x₇ (v₇ ∷ []) → Is (ShrSlice (named 6) κ₆ f64) x₈ (v₈ ∷ []) → Is (ShrSlice (named 7) κ₇ f64) x₉ (v₉ ∷ [])
-        → ent 𝓤 (onEntry 𝓤 H A add-traffic-signal.signature κs qs args vals) (WpFn 𝓤 H C Λ code.function (v₁ ∷ v₂ ∷ v₃ ∷ vptr b o ∷ v₅ ∷ v₆ ∷ v₇ ∷ v₈ ∷ v₉ ∷ []) Post)
-    walk is₁ is₂ is₃ is₅ is₆ is₇ is₈ is₉ =
+    walk : Is (MutSlice (named 0) κ₀ u64) x₁ (v₁ ∷ []) → Is (MutSlice (named 1) κ₁ f64) x₂ (v₂ ∷ []) → Is (MutSlice (named 2) κ₂ u64) x₃ (v₃ ∷ []) → Is (MutSlice (named 4) κ₄ u64) x₅ (v₅ ∷ []) → Is (ShrSlice (named 5) κ₅ u64) x₆ (v₆ ∷ []) → Is (P₇.the-row) x₇ (v₇ ∷ []) → Is (ShrSlice (named 6) κ₆ f64) x₈ (v₈ ∷ []) → Is (ShrSlice (named 7) κ₇ f64) x₉ (v₉ ∷ []) → Is (ShrSlice (named 8) κ₈ f64) x₁₀ (v₁₀ ∷ [])
+        → ent 𝓤 (onEntry 𝓤 H A add-traffic-signal.signature κs qs args vals) (WpFn 𝓤 H C Λ code.function (v₁ ∷ v₂ ∷ v₃ ∷ vptr b o ∷ v₅ ∷ v₆ ∷ v₇ ∷ v₈ ∷ v₉ ∷ v₁₀ ∷ []) Post)
+    walk is₁ is₂ is₃ is₅ is₆ is₇ is₈ is₉ is₁₀ =
         qed W (raw (onEntry 𝓤 H A add-traffic-signal.signature κs qs args vals) ∷ []) ∵
         use1 W (‵ (fobs γ (T.the-row .coded .code t)) ⊛ (‵ Lending ⊛ (‵ (flft κ₃ q₃) ⊛ (‵ Read ⊛ raw Handed)))) apart $
         split ! $ move ! (1 ∷ []) $ split ! $ move ! (1 ∷ []) $ split ! $ move ! (1 ∷ []) $ split ! $ move ! (4 ∷ 3 ∷ 2 ∷ 0 ∷ 1 ∷ []) $
-        enter ! C Λ code.function (v₁ ∷ v₂ ∷ v₃ ∷ vptr b o ∷ v₅ ∷ v₆ ∷ v₇ ∷ v₈ ∷ v₉ ∷ []) _ $
+        enter ! C Λ code.function (v₁ ∷ v₂ ∷ v₃ ∷ vptr b o ∷ v₅ ∷ v₆ ∷ v₇ ∷ v₈ ∷ v₉ ∷ v₁₀ ∷ []) _ $
         alloced ! (λ bs. params1 ! $
-        pass1 ! (init ! 36 refl (mut-slice-lawful 𝓤 H A W (named 0) κ₀ u64 .typed x₁ (v₁ ∷ []) is₁ .0)) $
-        pass1 ! (init ! 34 refl (mut-slice-lawful 𝓤 H A W (named 1) κ₁ f64 .typed x₂ (v₂ ∷ []) is₂ .0)) $
-        pass1 ! (init ! 32 refl (mut-slice-lawful 𝓤 H A W (named 2) κ₂ u64 .typed x₃ (v₃ ∷ []) is₃ .0)) $
-        pass1 ! (init ! 30 refl (tt, tt)) $
-        pass1 ! (init ! 28 refl (mut-slice-lawful 𝓤 H A W (named 4) κ₄ u64 .typed x₅ (v₅ ∷ []) is₅ .0)) $
-        pass1 ! (init ! 26 refl (shr-slice-lawful 𝓤 H A W (named 5) κ₅ u64 .typed x₆ (v₆ ∷ []) is₆ .0)) $
-        pass1 ! (init ! 24 refl (LL.lawful P₇.the-type P₇′.the-laws 𝓤 H A W .typed x₇ _ is₇ .0)) $
-        pass1 ! (init ! 22 refl (shr-slice-lawful 𝓤 H A W (named 6) κ₆ f64 .typed x₈ (v₈ ∷ []) is₈ .0)) $
-        pass1 ! (init ! 20 refl (shr-slice-lawful 𝓤 H A W (named 7) κ₇ f64 .typed x₉ (v₉ ∷ []) is₉ .0)) $
+        pass1 ! (init ! 38 refl (mut-slice-lawful 𝓤 H A W (named 0) κ₀ u64 .typed x₁ (v₁ ∷ []) is₁ .0)) $
+        pass1 ! (init ! 36 refl (mut-slice-lawful 𝓤 H A W (named 1) κ₁ f64 .typed x₂ (v₂ ∷ []) is₂ .0)) $
+        pass1 ! (init ! 34 refl (mut-slice-lawful 𝓤 H A W (named 2) κ₂ u64 .typed x₃ (v₃ ∷ []) is₃ .0)) $
+        pass1 ! (init ! 32 refl (tt, tt)) $
+        pass1 ! (init ! 30 refl (mut-slice-lawful 𝓤 H A W (named 4) κ₄ u64 .typed x₅ (v₅ ∷ []) is₅ .0)) $
+        pass1 ! (init ! 28 refl (shr-slice-lawful 𝓤 H A W (named 5) κ₅ u64 .typed x₆ (v₆ ∷ []) is₆ .0)) $
+        pass1 ! (init ! 26 refl (LL.lawful P₇.the-type P₇′.the-laws 𝓤 H A W .typed x₇ _ is₇ .0)) $
+        pass1 ! (init ! 24 refl (shr-slice-lawful 𝓤 H A W (named 6) κ₆ f64 .typed x₈ (v₈ ∷ []) is₈ .0)) $
+        pass1 ! (init ! 22 refl (shr-slice-lawful 𝓤 H A W (named 7) κ₇ f64 .typed x₉ (v₉ ∷ []) is₉ .0)) $
+        pass1 ! (init ! 20 refl (shr-slice-lawful 𝓤 H A W (named 8) κ₈ f64 .typed x₁₀ (v₁₀ ∷ []) is₁₀ .0)) $
         pass0 ! $
         -- the tally's borrow is opened
-        move ! (40 ∷ 41 ∷ 42 ∷ 43 ∷ 44 ∷ []) $
+        move ! (42 ∷ 43 ∷ 44 ∷ 45 ∷ 46 ∷ []) $
         opens ! tt T.the-row {h = t} b o (λ vs. spelt ! T.the-row (Is T.the-row) (shows 𝓤 H A T.the-row) (LL.vals T.the-type T′.the-laws) (LL.tells T.the-type T′.the-laws) fullShare t vs b o $
         move ! (1 ∷ []) $ peeks ! T.the-row (Is T.the-row) (shows 𝓤 H A T.the-row) t (mach ∷ []) (λ was. move ! (1 ∷ 0 ∷ []) $
         -- [the tally's cell; the tally; the open borrow, and what it knows (2); what is read; what is handed over; the locals]
-        assigns ! (addr ! (from ! (fld ! refl (hop ! (look-in ! 43 (sub ! 0 refl (whole !))) (stop !))))) (from ! (stop !)) (init ! 23 refl (tt, tt)) $
-        assigns ! (agg ! (and-then ! (load ! (from ! (stop !)) (look ! 23 refl)) (and-then ! (load ! (from ! (fld ! refl (stop !))) (look-in ! 43 (sub ! 1 refl (whole !)))) (no-more !)))) (from ! (stop !)) (init ! 21 refl (tt, (tt, (record { fits = is₁ .0 .1 .0 }, tt)))) $
-        assigns ! (addr ! (from ! (fld ! refl (hop ! (look-in ! 41 (sub ! 0 refl (whole !))) (stop !))))) (from ! (stop !)) (init ! 19 refl (tt, tt)) $
-        assigns ! (agg ! (and-then ! (load ! (from ! (stop !)) (look ! 19 refl)) (and-then ! (load ! (from ! (fld ! refl (stop !))) (look-in ! 41 (sub ! 1 refl (whole !)))) (no-more !)))) (from ! (stop !)) (init ! 17 refl (tt, (tt, (record { fits = is₂ .0 .1 .0 }, tt)))) $
-        assigns ! (addr ! (from ! (fld ! refl (hop ! (look-in ! 39 (sub ! 0 refl (whole !))) (stop !))))) (from ! (stop !)) (init ! 15 refl (tt, tt)) $
-        assigns ! (agg ! (and-then ! (load ! (from ! (stop !)) (look ! 15 refl)) (and-then ! (load ! (from ! (fld ! refl (stop !))) (look-in ! 39 (sub ! 1 refl (whole !)))) (no-more !)))) (from ! (stop !)) (init ! 13 refl (tt, (tt, (record { fits = is₃ .0 .1 .0 }, tt)))) $
-        assigns ! (of-opd ! (load ! (from ! (hop ! (look ! 37 refl) (stop !))) (look-raw ! 0 refl))) (from ! (stop !)) (init ! 11 refl (LL.lawful T.the-type T′.the-laws 𝓤 H A W .typed t _ was .0)) $
-        assigns ! (addr ! (from ! (fld ! refl (hop ! (look-in ! 35 (sub ! 0 refl (whole !))) (stop !))))) (from ! (stop !)) (init ! 9 refl (tt, tt)) $
-        assigns ! (agg ! (and-then ! (load ! (from ! (stop !)) (look ! 9 refl)) (and-then ! (load ! (from ! (fld ! refl (stop !))) (look-in ! 35 (sub ! 1 refl (whole !)))) (no-more !)))) (from ! (stop !)) (init ! 7 refl (tt, (tt, (record { fits = is₅ .0 .1 .0 }, tt)))) $
+        assigns ! (addr ! (from ! (fld ! refl (hop ! (look-in ! 45 (sub ! 0 refl (whole !))) (stop !))))) (from ! (stop !)) (init ! 23 refl (tt, tt)) $
+        assigns ! (agg ! (and-then ! (load ! (from ! (stop !)) (look ! 23 refl)) (and-then ! (load ! (from ! (fld ! refl (stop !))) (look-in ! 45 (sub ! 1 refl (whole !)))) (no-more !)))) (from ! (stop !)) (init ! 21 refl (tt, (tt, (record { fits = is₁ .0 .1 .0 }, tt)))) $
+        assigns ! (addr ! (from ! (fld ! refl (hop ! (look-in ! 43 (sub ! 0 refl (whole !))) (stop !))))) (from ! (stop !)) (init ! 19 refl (tt, tt)) $
+        assigns ! (agg ! (and-then ! (load ! (from ! (stop !)) (look ! 19 refl)) (and-then ! (load ! (from ! (fld ! refl (stop !))) (look-in ! 43 (sub ! 1 refl (whole !)))) (no-more !)))) (from ! (stop !)) (init ! 17 refl (tt, (tt, (record { fits = is₂ .0 .1 .0 }, tt)))) $
+        assigns ! (addr ! (from ! (fld ! refl (hop ! (look-in ! 41 (sub ! 0 refl (whole !))) (stop !))))) (from ! (stop !)) (init ! 15 refl (tt, tt)) $
+        assigns ! (agg ! (and-then ! (load ! (from ! (stop !)) (look ! 15 refl)) (and-then ! (load ! (from ! (fld ! refl (stop !))) (look-in ! 41 (sub ! 1 refl (whole !)))) (no-more !)))) (from ! (stop !)) (init ! 13 refl (tt, (tt, (record { fits = is₃ .0 .1 .0 }, tt)))) $
+        assigns ! (of-opd ! (load ! (from ! (hop ! (look ! 39 refl) (stop !))) (look-raw ! 0 refl))) (from ! (stop !)) (init ! 11 refl (LL.lawful T.the-type T′.the-laws 𝓤 H A W .typed t _ was .0)) $
+        assigns ! (addr ! (from ! (fld ! refl (hop ! (look-in ! 37 (sub ! 0 refl (whole !))) (stop !))))) (from ! (stop !)) (init ! 9 refl (tt, tt)) $
+        assigns ! (agg ! (and-then ! (load ! (from ! (stop !)) (look ! 9 refl)) (and-then ! (load ! (from ! (fld ! refl (stop !))) (look-in ! 37 (sub ! 1 refl (whole !)))) (no-more !)))) (from ! (stop !)) (init ! 7 refl (tt, (tt, (record { fits = is₅ .0 .1 .0 }, tt)))) $
         move ! (6 ∷ []) $ use1 W (raw (Callee 𝓤 H A at-mem run .pre to)) (asked was) $
-        calls-at ! fm (Callee 𝓤 H A at-mem run) known to (and-then ! (load ! (from ! (stop !)) (look ! 21 refl)) (and-then ! (load ! (from ! (stop !)) (look ! 17 refl)) (and-then ! (load ! (from ! (stop !)) (look ! 13 refl)) (and-then ! (load ! (from ! (stop !)) (look ! 11 refl)) (and-then ! (load ! (from ! (stop !)) (look ! 7 refl)) (and-then ! (load ! (from ! (stop !)) (look ! 33 refl)) (and-then ! (load ! (from ! (stop !)) (look ! 31 refl)) (and-then ! (load ! (from ! (stop !)) (look ! 29 refl)) (and-then ! (load ! (from ! (stop !)) (look ! 27 refl)) (no-more !)))))))))) (λ u.
+        calls-at ! fm (Callee 𝓤 H A at-mem run) known to (and-then ! (load ! (from ! (stop !)) (look ! 21 refl)) (and-then ! (load ! (from ! (stop !)) (look ! 17 refl)) (and-then ! (load ! (from ! (stop !)) (look ! 13 refl)) (and-then ! (load ! (from ! (stop !)) (look ! 11 refl)) (and-then ! (load ! (from ! (stop !)) (look ! 7 refl)) (and-then ! (load ! (from ! (stop !)) (look ! 35 refl)) (and-then ! (load ! (from ! (stop !)) (look ! 33 refl)) (and-then ! (load ! (from ! (stop !)) (look ! 31 refl)) (and-then ! (load ! (from ! (stop !)) (look ! 29 refl)) (and-then ! (load ! (from ! (stop !)) (look ! 27 refl)) (no-more !))))))))))) (λ u.
         use1 W (later (some (λ (r : Answered). some (λ (zs : Lasts). given (Known u r zs) (raw (Back zs)))))) (said u) $ await ! tt $ pick ! (λ r. pick ! (λ zs. learn ! (λ k.
         let fields = LL.owed N.the-type N′.the-laws r _ (k .1) in
         -- [what the callee leaves; the tally's cell; the tally; the open borrow, and what it knows (2); what is read; the locals]
         -- the fields' types and offsets are written, since those that are found for them are too large
         land ! (from ! (stop !)) (init ! 25 refl (LL.lawful N.the-type N′.the-laws 𝓤 H A W .typed r _ (k .1) .0)) $
-        rewrite ! 25 (λ (z : Val). ‵ (fat fullShare N′.mir (bs .1 .1 .1 .1 .1 .1 .1 .1 .1 .1 .0) 0 z)) (ap only (LL.tells N.the-type N′.the-laws r _ (k .1))) refl $
-        assigns ! (of-opd ! (load ! (from ! (fld ! {τ = T′.mir} {d = 32} refl (stop !))) (look-in ! 25 {τ = T′.mir} (sub ! 1 {τ = T′.mir} {d = 32} refl (whole !))))) (from ! (hop ! (look ! 37 refl) (stop !))) (store-raw ! 1 refl (LL.lawful T.the-type T′.the-laws 𝓤 H A W .typed (r .tally) _ (fields .1 .0) .0)) $
-        assigns ! (of-opd ! (load ! (from ! (fld ! {τ = S′.mir} {d = 0} refl (stop !))) (look-in ! 25 {τ = S′.mir} (sub ! 0 {τ = S′.mir} {d = 0} refl (whole !))))) (from ! (stop !)) (init ! 45 refl (EL.lawful S.the-type S′.the-laws 𝓤 H A W tt .typed (r .called) _ (fields .0) .0)) $
+        rewrite ! 25 (λ (z : Val). ‵ (fat fullShare N′.mir (bs .1 .1 .1 .1 .1 .1 .1 .1 .1 .1 .1 .0) 0 z)) (ap only (LL.tells N.the-type N′.the-laws r _ (k .1))) refl $
+        assigns ! (of-opd ! (load ! (from ! (fld ! {τ = T′.mir} {d = 32} refl (stop !))) (look-in ! 25 {τ = T′.mir} (sub ! 1 {τ = T′.mir} {d = 32} refl (whole !))))) (from ! (hop ! (look ! 39 refl) (stop !))) (store-raw ! 1 refl (LL.lawful T.the-type T′.the-laws 𝓤 H A W .typed (r .tally) _ (fields .1 .0) .0)) $
+        assigns ! (of-opd ! (load ! (from ! (fld ! {τ = S′.mir} {d = 0} refl (stop !))) (look-in ! 25 {τ = S′.mir} (sub ! 0 {τ = S′.mir} {d = 0} refl (whole !))))) (from ! (stop !)) (init ! 47 refl (EL.lawful S.the-type S′.the-laws 𝓤 H A W tt .typed (r .called) _ (fields .0) .0)) $
         owned ! T.the-row (Is T.the-row) (LL.makes T.the-type T′.the-plain 𝓤 H A) (r .tally) _ (fields .1 .0) $
         move ! (2 ∷ 0 ∷ 4 ∷ 5 ∷ 6 ∷ []) $ closes ! tt T.the-row (r .tally) (LL.vals T.the-type T′.the-laws (r .tally)) b o $
         -- [the tally's lending (2) and its token; what the callee leaves; the old tally; what is read; the locals]
-        returns ! (look ! 44 refl) $ move ! (44 ∷ 45 ∷ 42 ∷ 43 ∷ 40 ∷ 41 ∷ 38 ∷ 39 ∷ 36 ∷ 37 ∷ 34 ∷ 35 ∷ 32 ∷ 33 ∷ 30 ∷ 31 ∷ 28 ∷ 29 ∷ 26 ∷ 27 ∷ 24 ∷ 25 ∷ 22 ∷ 23 ∷ 20 ∷ 21 ∷ 18 ∷ 19 ∷ 16 ∷ 17 ∷ 14 ∷ 15 ∷ 12 ∷ 13 ∷ 10 ∷ 11 ∷ 8 ∷ 9 ∷ 6 ∷ 7 ∷ []) $ freed ! (_, (_, (_, (_, (_, (_, (_, (_, (_, (_, (_, (_, (_, (_, (_, (_, (_, (_, (_, (_, tt)))))))))))))))))))) $
+        returns ! (look ! 46 refl) $ move ! (46 ∷ 47 ∷ 44 ∷ 45 ∷ 42 ∷ 43 ∷ 40 ∷ 41 ∷ 38 ∷ 39 ∷ 36 ∷ 37 ∷ 34 ∷ 35 ∷ 32 ∷ 33 ∷ 30 ∷ 31 ∷ 28 ∷ 29 ∷ 26 ∷ 27 ∷ 24 ∷ 25 ∷ 22 ∷ 23 ∷ 20 ∷ 21 ∷ 18 ∷ 19 ∷ 16 ∷ 17 ∷ 14 ∷ 15 ∷ 12 ∷ 13 ∷ 10 ∷ 11 ∷ 8 ∷ 9 ∷ 6 ∷ 7 ∷ []) $ freed ! (_, (_, (_, (_, (_, (_, (_, (_, (_, (_, (_, (_, (_, (_, (_, (_, (_, (_, (_, (_, (_, tt))))))))))))))))))))) $
         keep ! (0 ∷ 1 ∷ 2 ∷ 3 ∷ 5 ∷ []) $ by ! (exits r u _ zs k (fields .0)))))))))
 
 module _ {M : Type 1} (𝓤 : URA M) (H : Heap 𝓤) (A : Atoms 𝓤) (W : Given 𝓤 H A) (at-mem : Memory → SProp 𝓤) (run : Routine → Fun 𝓤) where
   walks : (C : Calls 𝓤 H) (Λ : Loops 𝓤 H) → FmC 𝓤 H (W .laws) C → Triple 𝓤 (C #signals·add-traffic-signal) (Callee 𝓤 H A at-mem run)
       → Walks 𝓤 H A add-traffic-signal.ended stayed (WpFn 𝓤 H C Λ code.function) (add-traffic-signal.clauses 𝓤 H A at-mem run)
   walks C Λ fm known = walked 𝓤 H A add-traffic-signal.ended stayed (add-traffic-signal.clauses 𝓤 H A at-mem run) (WpFn 𝓤 H C Λ code.function)
-      (λ κs. (slice-vals, (slice-vals, (slice-vals, (ptr-vals, (slice-vals, (slice-vals, (LL.vals P₇.the-type P₇′.the-laws, (slice-vals, (slice-vals, tt))))))))))
-      (λ κs. (mut-slice-tells (named 0) (κs .0) u64, (mut-slice-tells (named 1) (κs .1 .0) f64, (mut-slice-tells (named 2) (κs .1 .1 .0) u64, (mut-tells (named 3) (κs .1 .1 .1 .0) T.the-row, (mut-slice-tells (named 4) (κs .1 .1 .1 .1 .0) u64, (shr-slice-tells (named 5) (κs .1 .1 .1 .1 .1 .0) u64, (LL.tells P₇.the-type P₇′.the-laws, (shr-slice-tells (named 6) (κs .1 .1 .1 .1 .1 .1 .0) f64, (shr-slice-tells (named 7) (κs .1 .1 .1 .1 .1 .1 .1 .0) f64, tt))))))))))
-      (λ κs qs bounds a g are. via 𝓤 _ (fst∗ 𝓤 _ (emp 𝓤)) (walk 𝓤 H A W at-mem run (κs .0) (κs .1 .0) (κs .1 .1 .0) (κs .1 .1 .1 .0) (κs .1 .1 .1 .1 .0) (κs .1 .1 .1 .1 .1 .0) (κs .1 .1 .1 .1 .1 .1 .0) (κs .1 .1 .1 .1 .1 .1 .1 .0) (qs .0) (qs .1 .0) (qs .1 .1 .0) (qs .1 .1 .1 .0) (qs .1 .1 .1 .1 .0) (qs .1 .1 .1 .1 .1 .0) (qs .1 .1 .1 .1 .1 .1 .0) (qs .1 .1 .1 .1 .1 .1 .1 .0)
-      (a .0) (a .1 .0) (a .1 .1 .0) (a .1 .1 .1 .0 .ptr .0) (a .1 .1 .1 .0 .ptr .1) (a .1 .1 .1 .0 .name) (a .1 .1 .1 .0 .now) (a .1 .1 .1 .1 .0) (a .1 .1 .1 .1 .1 .0) (a .1 .1 .1 .1 .1 .1 .0) (LL.val P₇.the-type P₇′.the-laws (a .1 .1 .1 .1 .1 .1 .0)) (a .1 .1 .1 .1 .1 .1 .1 .0) (a .1 .1 .1 .1 .1 .1 .1 .1 .0) C Λ fm known (are .0) (are .1 .0) (are .1 .1 .0) (are .1 .1 .1 .1 .0) (are .1 .1 .1 .1 .1 .0) (are .1 .1 .1 .1 .1 .1 .0) (are .1 .1 .1 .1 .1 .1 .1 .0) (are .1 .1 .1 .1 .1 .1 .1 .1 .0)))
+      (λ κs. (slice-vals, (slice-vals, (slice-vals, (ptr-vals, (slice-vals, (slice-vals, (LL.vals P₇.the-type P₇′.the-laws, (slice-vals, (slice-vals, (slice-vals, tt)))))))))))
+      (λ κs. (mut-slice-tells (named 0) (κs .0) u64, (mut-slice-tells (named 1) (κs .1 .0) f64, (mut-slice-tells (named 2) (κs .1 .1 .0) u64, (mut-tells (named 3) (κs .1 .1 .1 .0) T.the-row, (mut-slice-tells (named 4) (κs .1 .1 .1 .1 .0) u64, (shr-slice-tells (named 5) (κs .1 .1 .1 .1 .1 .0) u64, (LL.tells P₇.the-type P₇′.the-laws, (shr-slice-tells (named 6) (κs .1 .1 .1 .1 .1 .1 .0) f64, (shr-slice-tells (named 7) (κs .1 .1 .1 .1 .1 .1 .1 .0) f64, (shr-slice-tells (named 8) (κs .1 .1 .1 .1 .1 .1 .1 .1 .0) f64, tt)))))))))))
+      (λ κs qs bounds a g are. via 𝓤 _ (fst∗ 𝓤 _ (emp 𝓤)) (walk 𝓤 H A W at-mem run (κs .0) (κs .1 .0) (κs .1 .1 .0) (κs .1 .1 .1 .0) (κs .1 .1 .1 .1 .0) (κs .1 .1 .1 .1 .1 .0) (κs .1 .1 .1 .1 .1 .1 .0) (κs .1 .1 .1 .1 .1 .1 .1 .0) (κs .1 .1 .1 .1 .1 .1 .1 .1 .0) (qs .0) (qs .1 .0) (qs .1 .1 .0) (qs .1 .1 .1 .0) (qs .1 .1 .1 .1 .0) (qs .1 .1 .1 .1 .1 .0) (qs .1 .1 .1 .1 .1 .1 .0) (qs .1 .1 .1 .1 .1 .1 .1 .0) (qs .1 .1 .1 .1 .1 .1 .1 .1 .0)
+      (a .0) (a .1 .0) (a .1 .1 .0) (a .1 .1 .1 .0 .ptr .0) (a .1 .1 .1 .0 .ptr .1) (a .1 .1 .1 .0 .name) (a .1 .1 .1 .0 .now) (a .1 .1 .1 .1 .0) (a .1 .1 .1 .1 .1 .0) (a .1 .1 .1 .1 .1 .1 .0) (LL.val P₇.the-type P₇′.the-laws (a .1 .1 .1 .1 .1 .1 .0)) (a .1 .1 .1 .1 .1 .1 .1 .0) (a .1 .1 .1 .1 .1 .1 .1 .1 .0) (a .1 .1 .1 .1 .1 .1 .1 .1 .1 .0) C Λ fm known (are .0) (are .1 .0) (are .1 .1 .0) (are .1 .1 .1 .1 .0) (are .1 .1 .1 .1 .1 .0) (are .1 .1 .1 .1 .1 .1 .0) (are .1 .1 .1 .1 .1 .1 .1 .0) (are .1 .1 .1 .1 .1 .1 .1 .1 .0) (are .1 .1 .1 .1 .1 .1 .1 .1 .1 .0)))
 
   goes : (𝓣 : Tables 𝓤 H) → Triple 𝓤 (𝓣 .C #signals·add-traffic-signal) (Callee 𝓤 H A at-mem run) → Meets 𝓤 H A add-traffic-signal.signature (WpFn 𝓤 H (𝓣 .C) (𝓣 .Λ) code.function) (add-traffic-signal.spec 𝓤 H A at-mem run)
   goes 𝓣 known =
-      walk-meets 𝓤 H A add-traffic-signal.ended stayed W (goes-gave-slice 𝓤 H A W 8 0 tt (plain (λ _. u64)), (goes-gave-slice 𝓤 H A W 8 1 tt (plain (λ _. f64)), (goes-gave-slice 𝓤 H A W 8 2 tt (plain (λ _. u64)), (goes-ref 𝓤 H A W 8 3 tt (plain (λ _. T.the-row)), (goes-gave-slice 𝓤 H A W 8 4 tt (plain (λ _. u64)), (goes-none-slice 𝓤 H A W 8 (5 ∷ []) tt (plain (λ _. u64)) yes, (goes-none 𝓤 H A W 8 (λ _. P₇.the-row) yes (λ κs x f. refl), (goes-none-slice 𝓤 H A W 8 (6 ∷ []) tt (plain (λ _. f64)) yes, (goes-none-slice 𝓤 H A W 8 (7 ∷ []) tt (plain (λ _. f64)) yes, tt)))))))))
+      walk-meets 𝓤 H A add-traffic-signal.ended stayed W (goes-gave-slice 𝓤 H A W 9 0 tt (plain (λ _. u64)), (goes-gave-slice 𝓤 H A W 9 1 tt (plain (λ _. f64)), (goes-gave-slice 𝓤 H A W 9 2 tt (plain (λ _. u64)), (goes-ref 𝓤 H A W 9 3 tt (plain (λ _. T.the-row)), (goes-gave-slice 𝓤 H A W 9 4 tt (plain (λ _. u64)), (goes-none-slice 𝓤 H A W 9 (5 ∷ []) tt (plain (λ _. u64)) yes, (goes-none 𝓤 H A W 9 (λ _. P₇.the-row) yes (λ κs x f. refl), (goes-none-slice 𝓤 H A W 9 (6 ∷ []) tt (plain (λ _. f64)) yes, (goes-none-slice 𝓤 H A W 9 (7 ∷ []) tt (plain (λ _. f64)) yes, (goes-none-slice 𝓤 H A W 9 (8 ∷ []) tt (plain (λ _. f64)) yes, tt))))))))))
       (add-traffic-signal.clauses 𝓤 H A at-mem run) (WpFn 𝓤 H (𝓣 .C) (𝓣 .Λ) code.function) (WpFn-mono 𝓤 H (W .laws) 𝓣 code.function) (walks (𝓣 .C) (𝓣 .Λ) (fmOf 𝓤 H (W .laws) 𝓣) known)
 
 pub add-traffic-signal-spec : {M : Type 1} → stated.statement M

@@ -9,7 +9,7 @@ on-map-requires : tie.Need-on-map-requires
 on-map-requires c κs = search needs
 
 returns : tie.Need-returns
-returns c = fitted-off _ _ (c .before .before .before .before .args .l) (c .before .before .before .before .args .line) (c .before .before .before .before .args .housing) (c .before .before .before .before .args .bulbs) (c .before .before .before .before .args .joined) _ (c .before .on-map .ensures) (not-true _ (c .if1 .taken))
+returns c = let s = c .before .before .before .before .args in fitted-off _ _ (s .l) (s .line) (s .housing) (s .lamps) (s .count) (s .joined) _ (c .before .on-map .ensures) (not-true _ (c .if1 .taken))
 
 freed-by-requires : tie.Need-freed-by-requires
 freed-by-requires c κs = search needs
@@ -24,10 +24,18 @@ room-requires : tie.Need-room-requires
 room-requires c κs = (c .before .before .before .before .before .before .before .pre .0 .sized, c .before .before .before .before .before .before .before .pre .2, c .before .before .before .before .before .before .before .pre .3, freed-few _ _ _ _ (c .before .before .freed-by .ensures) (c .before .before .before .before .before .before .before .pre .0 .sized) (c .before .before .before .before .before .before .before .pre .3) .0, freed-few _ _ _ _ (c .before .before .freed-by .ensures) (c .before .before .before .before .before .before .before .pre .0 .sized) (c .before .before .before .before .before .before .before .pre .3) .1, more-few (c .before .before .before .before .before .before .before .args .l .drawn) _ _ _ (c .before .before .before .before .before .before .before .pre .4 .few) (c .before .before .before .before .before .before .before .pre .5 .few) (c .points-of .ensures))
 
 returns-2 : tie.Need-returns-2
-returns-2 c = fitted-full _ _ (c .before .before .before .before .before .before .before .before .before .args .l) (c .before .before .before .before .before .before .before .before .before .args .line) (c .before .before .before .before .before .before .before .before .before .args .housing) (c .before .before .before .before .before .before .before .before .before .args .bulbs) (c .before .before .before .before .before .before .before .before .before .args .joined) _ (c .before .before .before .before .before .before .on-map .ensures) (not-false _ (c .before .before .before .before .before .if1 .left)) _ (c .before .before .before .before .freed-by .ensures) _ (c .before .before .before .lists-fit .ensures) _ (c .before .before .points-of .ensures) _ (c .before .room .ensures) (not-true _ (c .if2 .taken))
+returns-2 c =
+    let tested = c .before .before .before .before .before .before in
+    let a = tested .before .before .before .args in
+    fitted-full _ _ (a .l) (a .line) (a .housing) (a .lamps) (a .count) (a .joined) _ (tested .on-map .ensures) (not-false _ (c .before .before .before .before .before .if1 .left))
+    _ (c .before .before .before .before .freed-by .ensures) _ (c .before .before .before .lists-fit .ensures) _ (c .before .before .points-of .ensures) _ (c .before .room .ensures) (not-true _ (c .if2 .taken))
 
 returns-3 : tie.Need-returns-3
-returns-3 c = fitted-fine _ _ (c .before .before .before .before .before .before .before .before .before .args .l) (c .before .before .before .before .before .before .before .before .before .args .line) (c .before .before .before .before .before .before .before .before .before .args .housing) (c .before .before .before .before .before .before .before .before .before .args .bulbs) (c .before .before .before .before .before .before .before .before .before .args .joined) _ (c .before .before .before .before .before .before .on-map .ensures) (not-false _ (c .before .before .before .before .before .if1 .left)) _ (c .before .before .before .before .freed-by .ensures) _ (c .before .before .before .lists-fit .ensures) _ (c .before .before .points-of .ensures) _ (c .before .room .ensures) (not-false _ (c .if2 .left))
+returns-3 c =
+    let tested = c .before .before .before .before .before .before in
+    let a = tested .before .before .before .args in
+    fitted-fine _ _ (a .l) (a .line) (a .housing) (a .lamps) (a .count) (a .joined) _ (tested .on-map .ensures) (not-false _ (c .before .before .before .before .before .if1 .left))
+    _ (c .before .before .before .before .freed-by .ensures) _ (c .before .before .before .lists-fit .ensures) _ (c .before .before .points-of .ensures) _ (c .before .room .ensures) (not-false _ (c .if2 .left))
 
 pub fitted-spec : {M : Type 1} → statement M
 fitted-spec =

@@ -11,43 +11,81 @@ use Rattle.light_room.proofs.signal_plan.Statement.{statement}
 use Rattle.light_room.proofs.signal_plan.Tie as tie
 
 light-plan-requires : tie.Need-light-plan-requires
-light-plan-requires c κs = readable _ _ (c .before .before .before .before .before .pre)
+light-plan-requires c κs = readable _ _ (c .before .before .before .before .before .before .pre)
 
 light-of-requires : tie.Need-light-of-requires
-light-of-requires c κs = readable _ _ (c .before .before .before .before .before .before .before .before .pre) .words .sized
-
-bulbs-of-requires : tie.Need-bulbs-of-requires
-bulbs-of-requires c κs = search needs
+light-of-requires c κs =
+    let start′ = c .before .before .before .before .before .before in
+    let start = start′ .before .before .before in
+    readable _ _ (start .pre) .words .sized
 
 joined-for-requires : tie.Need-joined-for-requires
-joined-for-requires c κs = readable _ _ (c .before .before .before .before .before .before .before .before .before .before .pre) .words
-
-enum-told : tie.Need-enum-told
-enum-told c = search needs
+joined-for-requires c κs =
+    let start′ = c .before .before .before .before .before .before in
+    let start = start′ .before .before .before .before .before in
+    readable _ _ (start .pre) .words
 
 returns : tie.Need-returns
-returns c = plan-lost _ _ (c .before .before .before .before .before .before .before .before .before .before .before .before .before .pre) (c .before .before .before .before .before .before .before .before .before .before .before .before .before .args .q) (c .before .before .before .before .before .before .before .before .before .before .before .before .before .args .lanes .now) (c .before .before .before .before .before .before .before .before .before .before .before .before .before .args .points .now) (c .before .before .before .before .before .before .before .before .before .before .before .before .before .args .given .now) (c .before .before .before .before .before .before .before .light-plan .result) (c .before .before .before .before .before .before .before .light-plan .ensures) (c .before .before .before .before .light-of .result) (c .before .before .before .bulbs-of .result) (c .before .before .joined-for .result) _ (c .enum-told .given .1)
+returns c =
+    let joined = c .before .before in
+    let lamps = joined .before in
+    let numbered = lamps .before in
+    let planned = numbered .before .before .before in
+    let start′ = planned .before .before .before .before .before .before in
+    let start = start′ .before in
+    let a = start .args in
+    plan-lost _ _ (start .pre) (a .q) (a .lanes .now) (a .points .now) (a .given .now) (a .lamps .now) (planned .light-plan .result) (planned .light-plan .ensures)
+    (numbered .light-of .result) (lamps .bulbs-of .result) (joined .joined-for .result) _ (c .enum-told .given .1)
 
-enum-told-2 : tie.Need-enum-told-2
-enum-told-2 c = search needs
+lamps-on-requires : tie.Need-lamps-on-requires
+lamps-on-requires c κs = λ e. c .before .before .before .before .bulbs-of .ensures .standard e
 
 fitted-requires : tie.Need-fitted-requires
-fitted-requires c κs = (readable _ _ (c .before .before .before .before .before .before .before .before .before .before .before .before .before .pre) .words, shapes-few _ _ (sound _ _ (c .before .before .before .before .before .before .before .before .before .before .before .before .before .pre)), map-few _ (λ j. omega (arith, c .before .before .before .before .before .before .before .before .before .before .before .before .shared-slice-known .given j)) _ (λ j. c .before .before .before .before .before .before .before .before .before .before .before .shared-slice-known2 .given j) (c .before .before .before .before .before .before .before .before .before .before .before .before .before .pre), points-few _ _ (c .before .before .before .before .before .before .before .before .before .before .before .before .before .pre), c .before .before .before .before .before .before .before .light-plan .ensures .read .line, c .before .before .before .before .before .before .before .light-plan .ensures .read .housing)
-
-enum-known-end : tie.Need-enum-known-end
-enum-known-end c = search needs
-
-refused-plan-requires : tie.Need-refused-plan-requires
-refused-plan-requires c κs = search needs
+fitted-requires c κs =
+    let planned′ = c .before .before .before .before .before .before in
+    let planned = planned′ .before .before .before in
+    let coords = planned .before .before .before .before .before in
+    let words = coords .before in
+    let start = words .before in (
+      readable _ _ (start .pre) .words,
+      shapes-few _ _ (sound _ _ (start .pre)),
+      map-few _ (λ j. omega (arith, words .shared-slice-known .given j)) _ (λ j. coords .shared-slice-known2 .given j) (start .pre),
+      points-few _ _ (start .pre),
+      planned .light-plan .ensures .read .line,
+      planned .light-plan .ensures .read .housing,
+    )
 
 returns-2 : tie.Need-returns-2
-returns-2 c = plan-full _ _ (c .before .before .before .before .before .before .before .before .before .before .before .before .before .before .before .before .before .before .pre) (c .before .before .before .before .before .before .before .before .before .before .before .before .before .before .before .before .before .before .args .q) (c .before .before .before .before .before .before .before .before .before .before .before .before .before .before .before .before .before .before .args .lanes .now) (c .before .before .before .before .before .before .before .before .before .before .before .before .before .before .before .before .before .before .args .points .now) (c .before .before .before .before .before .before .before .before .before .before .before .before .before .before .before .before .before .before .args .given .now) (c .before .before .before .before .before .before .before .before .before .before .before .before .light-plan .result) (c .before .before .before .before .before .before .before .before .before .before .before .before .light-plan .ensures) (c .before .before .before .before .before .before .before .before .before .light-of .result) (c .before .before .before .before .before .before .before .before .bulbs-of .result) (c .before .before .before .before .before .before .before .joined-for .result) (c .before .before .before .before .before .enum-told2 .given .1) (c .before .before .before .before .before .before .before .before .before .light-of .ensures) (c .before .before .before .before .before .before .before .before .bulbs-of .ensures) (c .before .before .before .before .before .before .before .joined-for .ensures) _ (c .before .before .before .before .fitted .ensures) _ (c .before .before .end .given .1) _ (c .refused-plan .ensures)
-
-enum-told-3 : tie.Need-enum-told-3
-enum-told-3 c = search needs
+returns-2 c =
+    let tested = c .before .before .before .before in
+    let on = tested .before in
+    let fine = on .before .before in
+    let joined = fine .before .before in
+    let lamps = joined .before in
+    let numbered = lamps .before in
+    let planned = numbered .before .before .before in
+    let start′ = planned .before .before .before .before .before .before in
+    let start = start′ .before in
+    let a = start .args in
+    plan-full _ _ (start .pre) (a .q) (a .lanes .now) (a .points .now) (a .given .now) (a .lamps .now) (planned .light-plan .result) (planned .light-plan .ensures)
+    (numbered .light-of .result) (lamps .bulbs-of .result) (joined .joined-for .result) (fine .enum-told2 .given .1) (numbered .light-of .ensures) (lamps .bulbs-of .ensures)
+    (joined .joined-for .ensures) _ (on .lamps-on .ensures) _ (tested .fitted .ensures) _ (c .before .before .end .given .1) _ (c .refused-plan .ensures)
 
 returns-3 : tie.Need-returns-3
-returns-3 c = plan-ready _ _ (c .before .before .before .before .before .before .before .before .before .before .before .before .before .before .before .before .pre) (c .before .before .before .before .before .before .before .before .before .before .before .before .before .before .before .before .args .q) (c .before .before .before .before .before .before .before .before .before .before .before .before .before .before .before .before .args .lanes .now) (c .before .before .before .before .before .before .before .before .before .before .before .before .before .before .before .before .args .points .now) (c .before .before .before .before .before .before .before .before .before .before .before .before .before .before .before .before .args .given .now) (c .before .before .before .before .before .before .before .before .before .before .light-plan .result) (c .before .before .before .before .before .before .before .before .before .before .light-plan .ensures) (c .before .before .before .before .before .before .before .light-of .result) (c .before .before .before .before .before .before .bulbs-of .result) (c .before .before .before .before .before .joined-for .result) (c .before .before .before .enum-told2 .given .1) (c .before .before .before .before .before .before .before .light-of .ensures) (c .before .before .before .before .before .before .bulbs-of .ensures) (c .before .before .before .before .before .joined-for .ensures) _ (c .before .before .fitted .ensures) (c .enum-told3 .given .1)
+returns-3 c =
+    let tested = c .before .before in
+    let on = tested .before in
+    let fine = on .before .before in
+    let joined = fine .before .before in
+    let lamps = joined .before in
+    let numbered = lamps .before in
+    let planned = numbered .before .before .before in
+    let start′ = planned .before .before .before .before .before .before in
+    let start = start′ .before in
+    let a = start .args in
+    plan-ready _ _ (start .pre) (a .q) (a .lanes .now) (a .points .now) (a .given .now) (a .lamps .now) (planned .light-plan .result) (planned .light-plan .ensures)
+    (numbered .light-of .result) (lamps .bulbs-of .result) (joined .joined-for .result) (fine .enum-told2 .given .1) (numbered .light-of .ensures) (lamps .bulbs-of .ensures)
+    (joined .joined-for .ensures) _ (on .lamps-on .ensures) _ (tested .fitted .ensures) (c .enum-told3 .given .1)
 
 pub signal-plan-spec : {M : Type 1} → statement M
 signal-plan-spec =
@@ -55,14 +93,15 @@ signal-plan-spec =
     (tie.spec
     light-plan-requires
     light-of-requires
-    bulbs-of-requires
+    (λ c κs. search needs)
     joined-for-requires
-    enum-told
+    (λ c. search needs)
     returns
-    enum-told-2
+    (λ c. search needs)
+    lamps-on-requires
     fitted-requires
-    enum-known-end
-    refused-plan-requires
+    (λ c. search needs)
+    (λ c κs. search needs)
     returns-2
-    enum-told-3
+    (λ c. search needs)
     returns-3)

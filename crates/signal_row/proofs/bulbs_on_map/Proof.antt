@@ -4,7 +4,7 @@ use mathlib.Core.Path.{_≡_}
 use lib.ListN.{length}
 use native.Mathlib.Omega.{arith}
 use borrow.Author.Needs.{needs}
-use Rattle.signal_row.proofs.StoredLaws.{Stand, stand-start, stand-end, stand-past, stand-stop, stand-next, longs}
+use Rattle.signal_row.proofs.StoredLaws.{Stand, stand-start, stand-end, stand-stop, stand-next, longs}
 use Rattle.signal_row.proofs.bulbs_on_map.Statement.{statement}
 use Rattle.signal_row.proofs.bulbs_on_map.Tie as tie
 
@@ -42,7 +42,7 @@ loop-again : tie.Need-loop-again Inv-loop μ-loop
 loop-again c = stand-next (c .before .before .before .before .before .before .before .before .args .b) _ (c .before .before .before .before .before .before .loop .inv) (search longs depth 12) (c .before .before .before .before .if1 .left) (c .before .before .before .before .before .loop-test .taken) _ _ (c .before .on-map .ensures) (c .if2 .left)
 
 returns-3 : tie.Need-returns-3 Inv-loop μ-loop
-returns-3 c = stand-past (c .before .before .before .args .b) _ (c .before .loop .inv) (search longs depth 12) (c .loop-test .left)
+returns-3 c = stand-end (c .before .before .before .args .b) _ (c .before .loop .inv) (omega arith)
 
 pub bulbs-on-map-spec : {M : Type 1} → statement M
 bulbs-on-map-spec =

@@ -10,9 +10,6 @@ line-on-requires c κs = search needs
 line-on-requires-2 : tie.Need-line-on-requires-2
 line-on-requires-2 c κs = search needs
 
-bulbs-on-map-requires : tie.Need-bulbs-on-map-requires
-bulbs-on-map-requires c κs = search needs
-
 both-requires : tie.Need-both-requires
 both-requires c κs = search needs
 
@@ -20,7 +17,7 @@ both-requires-2 : tie.Need-both-requires-2
 both-requires-2 c κs = search needs
 
 returns : tie.Need-returns
-returns c = all-on-map (c .before .before .before .before .before .args .drawn) _ _ _ _ _ _ _ _ (c .before .before .before .before .line-on .ensures) (c .before .before .before .line-on2 .ensures) (c .before .before .bulbs-on-map .ensures) (c .before .both .ensures) (c .both2 .ensures)
+returns c = all-on-map (c .before .before .before .before .args .drawn) _ _ _ _ _ _ _ (c .before .before .before .line-on .ensures) (c .before .before .line-on2 .ensures) (c .before .both .ensures) (c .both2 .ensures)
 
 pub on-map-spec : {M : Type 1} → statement M
 on-map-spec =
@@ -28,7 +25,6 @@ on-map-spec =
     (tie.spec
     line-on-requires
     line-on-requires-2
-    bulbs-on-map-requires
     both-requires
     both-requires-2
     returns)
