@@ -1,6 +1,7 @@
 //! files [FILES] [SEED]: random and damaged map files and change set files, read by the proved code and by the oracle's codec,
 //! which is written from document 01 alone. Where a file is read: what the tables stand for, and its written form in a buffer of
-//! random size. Where it is refused, and where the buffer is too short: every byte that was lent.
+//! random size. Where it is refused, and where the buffer is too short: every byte that was lent. Then damage at every place of a few
+//! files: the programs of the gate try every class too, at fewer places.
 
 use bench::damage::{CLASSES, Places, map_places, set_places, spoil, spoil_map, spoil_set};
 use bench::files;
@@ -10,6 +11,9 @@ use oracle::maps::{Size, random_map};
 use oracle::rng::Rng;
 use oracle::sample::random_set;
 use std::collections::BTreeMap;
+
+const EVERY_CUT: &str = "cut at each place";
+const EVERY_VALUE: &str = "each byte, value";
 
 /// How many files of a class were read and refused.
 type Hits = BTreeMap<(usize, &'static str), [usize; 2]>;
@@ -326,8 +330,50 @@ fn main() {
             foreigners += foreign(&mut rng, &mut count, &map, &write_set(&FileSet::default()));
         }
     }
+    tried += everywhere(&mut rng, &mut count, &mut lent, &mut before, &mut set);
     print(&count, tried, foreigners);
     std::process::exit((count.differ > 0).into());
+}
+
+/// Damage at every place, not at random ones: every truncation of the full map and the full set, and of small files every byte
+/// changed to each other value.
+fn everywhere(
+    rng: &mut Rng,
+    count: &mut Count,
+    lent: &mut Lent,
+    before: &mut Lent,
+    set: &mut Vec<u64>,
+) -> usize {
+    let mut tried = 0;
+    let full = write_map(&files::full_map());
+    for n in 0..full.len() {
+        map_file(rng, count, lent, before, EVERY_CUT, &full[..n]);
+        tried += 1;
+    }
+    let full = write_set(&files::full_set());
+    for n in 0..full.len() {
+        set_file(rng, count, set, EVERY_CUT, &full[..n]);
+        tried += 1;
+    }
+    let mut small = write_map(&random_map(rng, Size::Small));
+    for (i, mask) in changes(small.len()) {
+        small[i] ^= mask;
+        map_file(rng, count, lent, before, EVERY_VALUE, &small);
+        small[i] ^= mask;
+        tried += 1;
+    }
+    let mut small = write_set(&random_set(rng, 10, 200));
+    for (i, mask) in changes(small.len()) {
+        small[i] ^= mask;
+        set_file(rng, count, set, EVERY_VALUE, &small);
+        small[i] ^= mask;
+        tried += 1;
+    }
+    tried
+}
+
+fn changes(n: usize) -> impl Iterator<Item = (usize, u8)> {
+    (0..n).flat_map(|i| (1..=255).map(move |mask| (i, mask)))
 }
 
 fn print(count: &Count, tried: usize, foreigners: usize) {
@@ -336,7 +382,7 @@ fn print(count: &Count, tried: usize, foreigners: usize) {
         "", "map read", "12", "set read", "13"
     );
     let mut sums = [0; 4];
-    for class in CLASSES {
+    for class in CLASSES.into_iter().chain([EVERY_CUT, EVERY_VALUE]) {
         let of = |what| count.hits.get(&(what, class)).copied().unwrap_or_default();
         let row = [of(0), of(1)].concat();
         println!(

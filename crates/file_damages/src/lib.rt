@@ -6,16 +6,31 @@ use made_files::low;
 use made_files::part;
 use made_files::put;
 
-// A file cut short anywhere is no file.
+// A file cut short is no file. Places are tried as in `is_tried`; the driver of files outside the gate tries all.
 fn cut_short(file: &[u8], n: usize, words: &mut [u64], coords: &mut [f64]) -> Count {
     let mut back = [0u8; 49152];
     let mut c = file_trials::start(words, coords);
     let mut k = 0;
     while k < n {
-        c = file_trials::trial_to(file, k, words, coords, &mut back, file_trials::REFUSED, c);
+        c = cut_at(file, n, k, words, coords, &mut back, c);
         k += 1;
     }
     c
+}
+
+fn cut_at(
+    file: &[u8],
+    n: usize,
+    k: usize,
+    words: &mut [u64],
+    coords: &mut [f64],
+    back: &mut [u8],
+    c: Count,
+) -> Count {
+    if !is_tried(n, k) {
+        return c;
+    }
+    file_trials::trial_to(file, k, words, coords, back, file_trials::REFUSED, c)
 }
 
 // Byte i changed by a mask, and put back.
@@ -36,8 +51,8 @@ fn flipped(
     d
 }
 
-// Byte i changed to each other value.
-fn all_values(
+// Byte i with one bit after another changed.
+fn each_bit(
     file: &mut [u8],
     n: usize,
     i: usize,
@@ -47,21 +62,21 @@ fn all_values(
     before: Count,
 ) -> Count {
     let mut c = before;
-    let mut mask = 1u64;
-    while mask < 256 {
-        c = flipped(file, n, i, mask, words, coords, back, c);
-        mask += 1;
+    let mut k: usize = 0;
+    while k < 8 {
+        c = flipped(file, n, i, bit(k), words, coords, back, c);
+        k += 1;
     }
     c
 }
 
-// Each byte changed to each other value.
-fn values_changed(file: &mut [u8], n: usize, words: &mut [u64], coords: &mut [f64]) -> Count {
+// Each bit of each byte changed.
+fn all_bits_changed(file: &mut [u8], n: usize, words: &mut [u64], coords: &mut [f64]) -> Count {
     let mut back = [0u8; 49152];
     let mut c = file_trials::start(words, coords);
     let mut i = 0;
     while i < n {
-        c = all_values(file, n, i, words, coords, &mut back, c);
+        c = each_bit(file, n, i, words, coords, &mut back, c);
         i += 1;
     }
     c
@@ -80,8 +95,8 @@ fn bit(i: usize) -> u64 {
     }
 }
 
-// One bit of every third byte changed.
-fn third_flipped(
+// One bit of every 31st byte changed.
+fn some_flipped(
     file: &mut [u8],
     n: usize,
     i: usize,
@@ -90,7 +105,7 @@ fn third_flipped(
     back: &mut [u8],
     c: Count,
 ) -> Count {
-    if i % 3 != 0 {
+    if i % 31 != 0 {
         return c;
     }
     flipped(file, n, i, bit(i), words, coords, back, c)
@@ -101,16 +116,16 @@ fn bits_changed(file: &mut [u8], n: usize, words: &mut [u64], coords: &mut [f64]
     let mut c = file_trials::start(words, coords);
     let mut i = 0;
     while i < n {
-        c = third_flipped(file, n, i, words, coords, &mut back, c);
+        c = some_flipped(file, n, i, words, coords, &mut back, c);
         i += 1;
     }
     c
 }
 
-// A byte changed: in a small file each to each other value, in a large one a bit here and there.
+// A byte changed: in a small file each bit of each, in a large one a bit here and there.
 fn changed(file: &mut [u8], n: usize, words: &mut [u64], coords: &mut [f64]) -> Count {
     if n < 1000 {
-        return values_changed(file, n, words, coords);
+        return all_bits_changed(file, n, words, coords);
     }
     bits_changed(file, n, words, coords)
 }

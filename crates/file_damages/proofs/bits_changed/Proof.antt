@@ -17,11 +17,11 @@ start-requires c κs = search needs
 loop-holds : tie.Need-loop-holds Inv-loop μ-loop
 loop-holds c = search needs
 
-slice-aggregate-third-flipped : tie.Need-slice-aggregate-third-flipped Inv-loop μ-loop
-slice-aggregate-third-flipped c = search needs
+slice-aggregate-some-flipped : tie.Need-slice-aggregate-some-flipped Inv-loop μ-loop
+slice-aggregate-some-flipped c = search needs
 
-third-flipped-requires : tie.Need-third-flipped-requires Inv-loop μ-loop
-third-flipped-requires c κs = search needs
+some-flipped-requires : tie.Need-some-flipped-requires Inv-loop μ-loop
+some-flipped-requires c κs = search needs
 
 add-i : tie.Need-add-i Inv-loop μ-loop
 add-i c = search needs
@@ -52,8 +52,8 @@ bits-changed-spec =
     μ-loop
     start-requires
     loop-holds
-    slice-aggregate-third-flipped
-    third-flipped-requires
+    slice-aggregate-some-flipped
+    some-flipped-requires
     add-i
     loop-less
     loop-again

@@ -17,11 +17,11 @@ start-requires c κs = search needs
 loop-holds : tie.Need-loop-holds Inv-loop μ-loop
 loop-holds c = search needs
 
-slice-aggregate-trial-to : tie.Need-slice-aggregate-trial-to Inv-loop μ-loop
-slice-aggregate-trial-to c = search needs
+slice-aggregate-cut-at : tie.Need-slice-aggregate-cut-at Inv-loop μ-loop
+slice-aggregate-cut-at c = search needs
 
-trial-to-requires : tie.Need-trial-to-requires Inv-loop μ-loop
-trial-to-requires c κs = search needs
+cut-at-requires : tie.Need-cut-at-requires Inv-loop μ-loop
+cut-at-requires c κs = search needs
 
 add-k : tie.Need-add-k Inv-loop μ-loop
 add-k c = search needs
@@ -49,8 +49,8 @@ cut-short-spec =
     μ-loop
     start-requires
     loop-holds
-    slice-aggregate-trial-to
-    trial-to-requires
+    slice-aggregate-cut-at
+    cut-at-requires
     add-k
     loop-less
     loop-again

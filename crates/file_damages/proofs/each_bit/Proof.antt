@@ -2,14 +2,14 @@ use lib.ListN.{length}
 use mathlib.Core.Path.{_≡_}
 use Prim.Native.Nat.{_-_, _≤_}
 use borrow.Author.Needs.{needs}
-use Rattle.file_damages.proofs.all_values.Statement.{statement}
-use Rattle.file_damages.proofs.all_values.Tie as tie
+use Rattle.file_damages.proofs.each_bit.Statement.{statement}
+use Rattle.file_damages.proofs.each_bit.Tie as tie
 
 abbrev Inv-loop : tie.InvT-loop
-Inv-loop file₀ n i words₀ coords₀ back₀ c₀ mask₀ file words coords back c mask = (length file ≡ length file₀) × (length words ≡ length words₀) × (length coords ≡ length coords₀) × (length back ≡ length back₀)
+Inv-loop file₀ n i words₀ coords₀ back₀ c₀ k₀ file words coords back c k = (length file ≡ length file₀) × (length words ≡ length words₀) × (length coords ≡ length coords₀) × (length back ≡ length back₀)
 
 abbrev μ-loop : tie.MeasureT-loop
-μ-loop file₀ n i words₀ coords₀ back₀ c₀ mask₀ file words coords back c mask = 256 - mask
+μ-loop file₀ n i words₀ coords₀ back₀ c₀ k₀ file words coords back c k = 8 - k
 
 loop-holds : tie.Need-loop-holds Inv-loop μ-loop
 loop-holds c = search needs
@@ -17,8 +17,8 @@ loop-holds c = search needs
 flipped-requires : tie.Need-flipped-requires Inv-loop μ-loop
 flipped-requires c κs = search needs
 
-add-mask : tie.Need-add-mask Inv-loop μ-loop
-add-mask c = search needs
+add-k : tie.Need-add-k Inv-loop μ-loop
+add-k c = search needs
 
 loop-less : tie.Need-loop-less Inv-loop μ-loop
 loop-less c = search needs
@@ -41,15 +41,15 @@ same-length-4 c = search needs
 returns : tie.Need-returns Inv-loop μ-loop
 returns c = search needs
 
-pub all-values-spec : {M : Type 1} → statement M
-all-values-spec =
+pub each-bit-spec : {M : Type 1} → statement M
+each-bit-spec =
     tie.close
     (tie.spec
     Inv-loop
     μ-loop
     loop-holds
     flipped-requires
-    add-mask
+    add-k
     loop-less
     loop-again
     same-length

@@ -2,8 +2,8 @@ use lib.ListN.{length}
 use mathlib.Core.Path.{_≡_}
 use Prim.Native.Nat.{_-_, _≤_}
 use borrow.Author.Needs.{needs}
-use Rattle.file_damages.proofs.values_changed.Statement.{statement}
-use Rattle.file_damages.proofs.values_changed.Tie as tie
+use Rattle.file_damages.proofs.all_bits_changed.Statement.{statement}
+use Rattle.file_damages.proofs.all_bits_changed.Tie as tie
 
 abbrev Inv-loop : tie.InvT-loop
 Inv-loop file₀ n words₀ coords₀ back₀ c₀ i₀ file words coords back c i = (length file ≡ length file₀) × (length words ≡ length words₀) × (length coords ≡ length coords₀) × (length back ≡ 49152)
@@ -17,11 +17,11 @@ start-requires c κs = search needs
 loop-holds : tie.Need-loop-holds Inv-loop μ-loop
 loop-holds c = search needs
 
-slice-aggregate-all-values : tie.Need-slice-aggregate-all-values Inv-loop μ-loop
-slice-aggregate-all-values c = search needs
+slice-aggregate-each-bit : tie.Need-slice-aggregate-each-bit Inv-loop μ-loop
+slice-aggregate-each-bit c = search needs
 
-all-values-requires : tie.Need-all-values-requires Inv-loop μ-loop
-all-values-requires c κs = search needs
+each-bit-requires : tie.Need-each-bit-requires Inv-loop μ-loop
+each-bit-requires c κs = search needs
 
 add-i : tie.Need-add-i Inv-loop μ-loop
 add-i c = search needs
@@ -44,16 +44,16 @@ same-length-3 c = search needs
 returns : tie.Need-returns Inv-loop μ-loop
 returns c = search needs
 
-pub values-changed-spec : {M : Type 1} → statement M
-values-changed-spec =
+pub all-bits-changed-spec : {M : Type 1} → statement M
+all-bits-changed-spec =
     tie.close
     (tie.spec
     Inv-loop
     μ-loop
     start-requires
     loop-holds
-    slice-aggregate-all-values
-    all-values-requires
+    slice-aggregate-each-bit
+    each-bit-requires
     add-i
     loop-less
     loop-again
