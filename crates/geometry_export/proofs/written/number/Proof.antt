@@ -1,4 +1,5 @@
 -- `geometry_export::written::number` meets its contract. Assumes nothing.
+use Rattle.geometry_export.proofs.Laws.{number-refused}
 use mathlib.Core.Path.{refl}
 use borrow.Author.Needs.{needs}
 use Rattle.geometry_export.proofs.written.number.Statement.{statement}
@@ -14,7 +15,7 @@ enum-known-a-2 : tie.Need-enum-known-a-2
 enum-known-a-2 c = search needs
 
 returns : tie.Need-returns
-returns c = rw (c .before .before .a .given .1) record { code = c .number .ensures; left = refl }
+returns c = search (needs, number-refused)
 
 returns-2 : tie.Need-returns-2
 returns-2 c = rw (c .before .before .a2 .given .1) record { code = refl; left = refl }
