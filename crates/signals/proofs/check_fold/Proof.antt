@@ -23,7 +23,7 @@ settles-requires : tie.Need-settles-requires
 settles-requires c κs = search needs
 
 returns-2 : tie.Need-returns-2
-returns-2 c = K.fold-tried _ _ _ _ _ _ _ (c .before .before .before .before .draft-set .ensures) _ (c .before .settles .ensures)
+returns-2 c = K.fold-tried _ _ _ _ _ _ _ (c .before .before .before .before .draft-set .ensures) _ (c .before .settles .ensures .tried)
 
 pub check-fold-spec : {M : Type 1} → statement M
 check-fold-spec =
