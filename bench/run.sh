@@ -4,7 +4,7 @@
 # edits (random calls in runs against the Rust), edit_times (the edits beside the Rust, timed),
 # runs (random runs from a map file to its change set file in one call, against the Rust's runs),
 # files (random and damaged map and set files against a codec written from document 01), file_times (files beside that codec,
-# timed), validity (the test of a map's tables, beside the Rust's edits),
+# timed), validity (the test of a map's tables, beside the Rust's edits), stack (how much stack each call needs),
 # requests (random requests with the Rust's answers, for target/bin/geometry_replay FILE).
 set -eu
 cd "$(dirname "$0")/.."
