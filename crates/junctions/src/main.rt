@@ -1,13 +1,18 @@
-// What a person reads: two junctions drawn in both orders, and document 01's worked crossings, carried out by the proved code. For each
-// call: what was asked, the answer, the change set; then the running fold, the tally and the map. Where an answer is expected, whether
-// it is that: P1 to P8 as document 01 has them; the stations and the full map, of which it says only how they end, worked out by hand.
+// What a person reads: two junctions drawn in both orders, and document 01's worked crossings, carried out by the proved code; or the
+// lines of any file in the same notation (docs/JUNCTIONS.md). For each call: what was asked, the answer, the change set; on request the
+// running fold, the tally and the map. Where an answer is expected, whether it came. The last line is `ok`, or how many did not.
+mod expected;
+mod notation;
+mod state;
+
 use call_list::Reply;
 use changes::Tally;
 use libc::STDOUT_FILENO;
-use request_calls::line_over;
-use sample_text::expect_number;
+use printing::say;
+use printing::word;
 use sample_text::line_end;
 use sample_text::name_at;
+use state::State;
 
 // The rest of a line, with its end.
 fn say_rest(text: &[u8], at: usize) {
@@ -26,90 +31,86 @@ fn say_request(text: &[u8], at: usize) {
     printing::requests::request(&row, &lists, &reals);
 }
 
-// Whether an answer is the one that document 01 has: its name, then the number and the set's bytes, or the refusal.
-fn as_written(text: &[u8], answer: usize, r: Reply, set: &[u64], buffer: &mut [u8]) -> bool {
-    if r.what != 0 {
-        return request_calls::refused_as(text, answer, r);
-    }
-    let w = name_at(text, answer);
-    if w.value != 0x646F6E65 {
+// Whether the line from `at` to `end` is in the notation; if not, it is said.
+fn well_formed(text: &[u8], at: usize, end: usize, name: u64, no: u64) -> bool {
+    let w = name_at(text, at);
+    if text.len() < end {
         return false;
     }
-    let a = expect_number(text, w.next, r.number);
-    line_over(text, request_calls::expect_set(text, a, set, buffer))
+    if end < at {
+        return false;
+    }
+    notation::well_formed(
+        &text[at..end],
+        name,
+        std::num::wrapping_sub_usize(w.next, at),
+        no,
+    )
 }
 
-// After an answer that is expected, which begins with its name.
-fn say_written(text: &[u8], name: usize, yes: bool) {
-    let w = name_at(text, name);
-    let e = w.next;
-    io::write_all(STDOUT_FILENO, b"  ");
-    if 0 < e {
-        if e <= text.len() {
-            if name < e {
-                io::write_all(STDOUT_FILENO, &text[name..e]);
-            }
-        }
-    }
-    if yes {
-        io::write_all(STDOUT_FILENO, b"as expected\n");
-    } else {
-        io::write_all(STDOUT_FILENO, b"NOT AS EXPECTED\n");
+// A line that wants a map, and none is open.
+fn not_carried_out(s: State, due: u64) -> State {
+    say(b"  ");
+    notation::at_line(s.line);
+    say(b"not carried out, no map is open\n");
+    state::noted(s, due, 12)
+}
+
+// The kind of the record that an edit answers with.
+fn kind(name: u64) -> u64 {
+    match name {
+        0x6C696E65 => 5,
+        0x6C69676874 => 6,
+        _ => 8,
     }
 }
 
-// The answer beside the one in the next line, if there is one, behind `=`.
-fn judge(text: &[u8], next: usize, r: Reply, set: &[u64], buffer: &mut [u8]) {
-    let w = name_at(text, next);
-    if w.value != 0x3D {
-        return;
-    }
-    let name = name_at(text, w.next);
-    say_written(text, w.next, as_written(text, name.next, r, set, buffer));
-}
-
-fn say_answer(r: Reply, set: &[u64]) {
-    printing::answer(r.what, r.number, r.detail, r.second);
+fn say_answer(name: u64, r: Reply, set: &[u64]) {
+    printing::answer(kind(name), r.what, r.number, r.detail, r.second);
     if r.what == 0 {
         printing::sets::set(set);
     }
 }
 
+// After an edit. 255 stands for no call, whatever number above the refusals' the answer has.
+fn edited(s: State, r: Reply, tally: Tally) -> State {
+    if r.what < 15 {
+        return state::answered(s, state::ANSWER, r, tally);
+    }
+    say(b"    ");
+    notation::at_line(s.line);
+    say(b"a number is none of its cases, or a list is too long\n");
+    state::answered(s, state::REFUSED, request_calls::reply(255), tally)
+}
+
 fn edit(
     text: &[u8],
     at: usize,
-    next: usize,
+    name: u64,
     words: &mut [u64],
     coords: &mut [f64],
     fold: &mut [u64],
-    tally: Tally,
     set: &mut [u64],
-    buffer: &mut [u8],
-) -> Tally {
-    say_request(text, at);
+    s: State,
+) -> State {
+    let tally = s.tally;
     let c = request_calls::carry(text, at, words, coords, fold, tally, set);
     let r = c.reply;
     let after = c.tally;
-    say_answer(r, set);
-    judge(text, next, r, set, buffer);
-    after
+    say_answer(name, r, set);
+    edited(s, r, after)
 }
 
-// The running fold's bytes beside those in the next line.
-fn fold_written(text: &[u8], next: usize, fold: &[u64], buffer: &mut [u8]) {
-    let w = name_at(text, next);
-    let name = name_at(text, w.next);
-    let a = request_calls::expect_set(text, name.next, fold, buffer);
-    say_written(text, w.next, line_over(text, a));
-}
-
-// The running fold, the tally and the map.
-fn show(words: &[u64], coords: &[f64], fold: &[u64], tally: Tally) {
-    printing::say(b"running fold\n");
-    printing::sets::set(fold);
-    printing::sets::tally(tally.created, tally.modified, tally.deleted);
-    printing::say(b"map\n");
-    printing::map::map(words, coords);
+// After a map file was handed over.
+fn opened(s: State, r: Reply, tally: Tally) -> State {
+    if r.what == 0 {
+        return state::answered(state::opened(s, true), state::OPENED, r, tally);
+    }
+    notation::at_line(s.line);
+    say(
+        b"no map: the file is refused (12, bad map), and nothing more is carried out up to the next map\n",
+    );
+    state::answered(s, state::REFUSED, r, tally)
 }
 
 fn open(
@@ -118,42 +119,186 @@ fn open(
     words: &mut [u64],
     coords: &mut [f64],
     fold: &mut [u64],
-    tally: Tally,
     buffer: &mut [u8],
-) -> Tally {
+    s: State,
+) -> State {
+    let tally = s.tally;
     let c = request_calls::open(text, at, buffer, words, coords, fold, tally);
     let r = c.reply;
     let after = c.tally;
-    if r.what != 0 {
-        printing::say(b"no map\n");
+    opened(s, r, after)
+}
+
+// The running fold, the tally and the map.
+fn show(words: &[u64], coords: &[f64], fold: &[u64], s: State) {
+    let tally = s.tally;
+    say(b"running fold\n");
+    printing::sets::set(fold);
+    printing::sets::tally(tally.created, tally.modified, tally.deleted);
+    say(b"map\n");
+    printing::map::map(words, coords);
+}
+
+fn unread(s: State) -> State {
+    state::noted(s, state::UNREAD, 0)
+}
+
+// A line whose first word is none of the words of the notation.
+fn unknown(text: &[u8], at: usize, s: State) -> State {
+    notation::at_line(s.line);
+    if at < text.len() {
+        let b = text[at];
+        if b <= 32 {
+            notation::blank(b);
+            return unread(s);
+        }
     }
-    after
+    say(b"unknown word ");
+    notation::quoted(text, at);
+    say(b"\n");
+    unread(s)
+}
+
+fn map_line(
+    text: &[u8],
+    at: usize,
+    words: &mut [u64],
+    coords: &mut [f64],
+    fold: &mut [u64],
+    buffer: &mut [u8],
+    s: State,
+    good: bool,
+) -> State {
+    if !good {
+        return unread(state::opened(s, false));
+    }
+    let w = name_at(text, at);
+    open(
+        text,
+        w.next,
+        words,
+        coords,
+        fold,
+        buffer,
+        state::opened(s, false),
+    )
+}
+
+fn edit_line(
+    text: &[u8],
+    at: usize,
+    name: u64,
+    words: &mut [u64],
+    coords: &mut [f64],
+    fold: &mut [u64],
+    set: &mut [u64],
+    s: State,
+    good: bool,
+) -> State {
+    if !good {
+        return unread(s);
+    }
+    say_request(text, at);
+    if !s.open {
+        return not_carried_out(s, state::REFUSED);
+    }
+    edit(text, at, name, words, coords, fold, set, s)
+}
+
+fn fold_line(fold: &[u64], s: State, good: bool) -> State {
+    if !good {
+        return unread(s);
+    }
+    say(b"running fold\n");
+    if !s.open {
+        return not_carried_out(s, state::REFUSED);
+    }
+    printing::sets::set(fold);
+    state::noted(s, state::FOLD, 0)
+}
+
+fn show_line(words: &[u64], coords: &[f64], fold: &[u64], s: State, good: bool) -> State {
+    if !good {
+        return unread(s);
+    }
+    if !s.open {
+        say(b"map\n");
+        return not_carried_out(s, state::UNREAD);
+    }
+    show(words, coords, fold, s);
+    s
+}
+
+// A line that is no expectation.
+fn asked(
+    text: &[u8],
+    at: usize,
+    end: usize,
+    words: &mut [u64],
+    coords: &mut [f64],
+    fold: &mut [u64],
+    set: &mut [u64],
+    buffer: &mut [u8],
+    s: State,
+) -> State {
+    let w = name_at(text, at);
+    let name = w.value;
+    match name {
+        0x736179 => {
+            say_rest(text, w.next);
+            return s;
+        }
+        0x6D6170 | 0x6C696E65 | 0x6C69676874 | 0x6C696E6B73 | 0x666F6C64 | 0x73686F77 => {}
+        _ => return unknown(text, at, s),
+    }
+    let good = well_formed(text, at, end, name, s.line);
+    match name {
+        0x6D6170 => map_line(text, at, words, coords, fold, buffer, s, good),
+        0x666F6C64 => fold_line(fold, s, good),
+        0x73686F77 => show_line(words, coords, fold, s, good),
+        _ => edit_line(text, at, name, words, coords, fold, set, s, good),
+    }
+}
+
+// Whether a line is empty or a note.
+fn passed_over(text: &[u8], at: usize) -> bool {
+    if at < text.len() {
+        let b = text[at];
+        return b == 10 || b == b'#';
+    }
+    true
 }
 
 fn line(
     text: &[u8],
     at: usize,
-    next: usize,
+    end: usize,
     words: &mut [u64],
     coords: &mut [f64],
     fold: &mut [u64],
-    tally: Tally,
     set: &mut [u64],
     buffer: &mut [u8],
-) -> Tally {
-    let w = name_at(text, at);
-    let name = w.value;
-    match name {
-        0x6D6170 => return open(text, w.next, words, coords, fold, tally, buffer),
-        0x6C696E65 | 0x6C69676874 | 0x6C696E6B73 => {
-            return edit(text, at, next, words, coords, fold, tally, set, buffer);
-        }
-        0x736179 => say_rest(text, w.next),
-        0x666F6C64 => fold_written(text, next, fold, buffer),
-        0x73686F77 => show(words, coords, fold, tally),
-        _ => {}
+    before: State,
+) -> State {
+    let s = state::next_line(before);
+    if passed_over(text, at) {
+        return s;
     }
-    tally
+    let w = name_at(text, at);
+    if w.value == 0x3D {
+        return expected::expectation(text, w.next, end, s, fold, set, buffer);
+    }
+    asked(
+        text,
+        at,
+        end,
+        words,
+        coords,
+        fold,
+        set,
+        buffer,
+        state::settled(s),
+    )
 }
 
 fn lines(
@@ -163,26 +308,25 @@ fn lines(
     fold: &mut [u64],
     set: &mut [u64],
     buffer: &mut [u8],
-) {
-    let mut tally = Tally {
-        created: 0,
-        modified: 0,
-        deleted: 0,
-    };
+) -> u64 {
+    let mut s = state::start();
     let mut at = 0;
     while at < text.len() {
         let next = line_end(text, at);
-        tally = line(text, at, next, words, coords, fold, tally, set, buffer);
+        s = line(text, at, next, words, coords, fold, set, buffer, s);
         at = next;
     }
+    let last = state::settled(s);
+    last.wrong
 }
 
-fn play(text: &[u8]) {
+// The lines of a text: how many answers were not as expected.
+fn play(text: &[u8]) -> u64 {
     let mut words = [0u64; 13671];
     let mut coords = [0.0; 105280];
     let mut fold = [0u64; 3556];
     let mut set = [0u64; 3556];
-    let mut buffer = [0u8; 65536];
+    let mut buffer = [0u8; 262144];
     lines(
         text,
         &mut words,
@@ -190,19 +334,94 @@ fn play(text: &[u8]) {
         &mut fold,
         &mut set,
         &mut buffer,
-    );
+    )
+}
+
+// The last line.
+fn verdict(wrong: u64) {
+    if wrong == 0 {
+        say(b"ok\n");
+    } else {
+        word(b"NOT AS EXPECTED: ", wrong);
+        say(b"\n");
+    }
+}
+
+// A file that nothing can be carried out of.
+fn no_text(path: &[u8], why: &[u8]) -> u64 {
+    say(path);
+    say(why);
+    1
+}
+
+// The n bytes that were read, and a line end where the last line has none: how many.
+fn with_line_end(text: &mut [u8], n: usize) -> usize {
+    if n == 0 {
+        return 0;
+    }
+    if text.len() <= n {
+        return n;
+    }
+    if text[n - 1] == 10 {
+        return n;
+    }
+    text[n] = 10;
+    n + 1
+}
+
+fn play_start(text: &[u8], n: usize) -> u64 {
+    if text.len() < n {
+        return 1;
+    }
+    play(&text[..n])
+}
+
+// The n bytes that were read of a file.
+fn carry_out(path: &[u8], text: &mut [u8], n: usize) -> u64 {
+    if n == 0 {
+        return no_text(path, b": the file is empty, or cannot be read\n");
+    }
+    if n == text.len() {
+        return no_text(
+            path,
+            b": the file is longer than 262144 bytes, and nothing of it is carried out\n",
+        );
+    }
+    let m = with_line_end(text, n);
+    play_start(text, m)
+}
+
+fn not_opened(path: &[u8]) -> u64 {
+    if os::errno() == libc::ENOENT {
+        return no_text(path, b": there is no such file\n");
+    }
+    no_text(path, b": the file cannot be opened\n")
+}
+
+// The file, in room for one byte more than it may have.
+fn read(path: &[u8], file: i32) -> u64 {
+    let mut text = [0u8; 262145];
+    let n = io::read_full(file, &mut text);
+    libc::close(file);
+    carry_out(path, &mut text, n)
+}
+
+fn run(path: &[u8]) -> u64 {
+    if path.len() == 0 {
+        return no_text(
+            path,
+            b"name the file that is to be carried out: junctions FILE\n",
+        );
+    }
+    let file = os::open_read(path);
+    if file < 0 {
+        return not_opened(path);
+    }
+    read(path, file)
 }
 
 fn main() {
     let mut path = io::buffer();
     let length = os::arg(1, &mut path);
-    let file = os::open_read(&path[..length]);
-    if file < 0 {
-        os::fail(&path[..length]);
-        return;
-    }
-    let mut text = [0u8; 16384];
-    let n = io::read_full(file, &mut text);
-    libc::close(file);
-    play(&text[..n]);
+    verdict(run(&path[..length]));
 }

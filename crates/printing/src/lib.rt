@@ -1,6 +1,8 @@
 // Requests, answers, change sets and maps in words, for a person to read.
 pub mod decimal;
+mod limbs;
 pub mod map;
+mod refusals;
 pub mod requests;
 pub mod sets;
 
@@ -75,43 +77,18 @@ pub fn kind(k: u64) {
     }
 }
 
-// The trade's word for a refusal.
-fn refusal(what: u64) {
-    match what {
-        1 => say(b"no lanes"),
-        2 => say(b"unknown"),
-        3 => say(b"listed twice"),
-        4 => say(b"bad measure"),
-        5 => say(b"bad shape"),
-        6 => say(b"no place"),
-        7 => say(b"wrong group"),
-        8 => say(b"wrong link"),
-        9 => say(b"off the map"),
-        10 => say(b"full"),
-        11 => say(b"numbers spent"),
-        12 => say(b"bad map"),
-        13 => say(b"bad set"),
-        _ => say(b"short buffer"),
-    }
-}
-
-// An answer in four words.
-pub fn answer(what: u64, made: u64, detail: u64, second: u64) {
+// An answer in four words, of a call that answers records of this kind. What is neither done nor refused was no call.
+pub fn answer(of: u64, what: u64, made: u64, detail: u64, second: u64) {
     if what == 0 {
-        word(b"  done, ", made);
-        say(b"\n");
-        return;
-    }
-    word(b"  refused ", what);
-    say(b", ");
-    refusal(what);
-    if what == 2 {
-        say(b" ");
-        kind(detail);
-        word(b" ", second);
+        say(b"  done, ");
+        kind(of);
+        word(b" ", made);
     } else {
-        if detail != 0 {
-            word(b", detail ", detail);
+        if what < 15 {
+            say(b"  ");
+            refusals::refusal(what, detail, second);
+        } else {
+            say(b"  no such call");
         }
     }
     say(b"\n");

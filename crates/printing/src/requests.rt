@@ -32,10 +32,11 @@ fn placement(how: u64, row: &[u64], reals: &[f64], k: usize) {
             say(b" at station ");
             decimal::decimal(get_real(reals, 0));
         }
-        _ => {
+        2 => {
             say(b" along");
             given(row, reals, k);
         }
+        _ => word(b" placed by no such way: ", how),
     }
 }
 
@@ -46,7 +47,8 @@ fn stop_line(row: &[u64], lists: &[u64], reals: &[f64]) {
     match rule {
         0 => say(b", stop sign"),
         1 => say(b", marking"),
-        _ => say(b", no rule"),
+        2 => say(b", no rule"),
+        _ => word(b", no such rule: ", rule),
     }
 }
 
@@ -59,18 +61,39 @@ fn line_choice(row: &[u64], reals: &[f64]) {
             say(b", new line");
             placement(get(row, 5), row, reals, 22);
         }
-        _ => say(b", no line"),
+        3 => say(b", no line"),
+        _ => word(b", no such choice of line: ", choice),
+    }
+}
+
+fn signal_kind(k: u64) {
+    match k {
+        0 => say(b", for vehicles"),
+        1 => say(b", for pedestrians"),
+        _ => word(b", for no such kind: ", k),
+    }
+}
+
+// Housing, height and lamps, where they are given.
+fn equipment(row: &[u64], reals: &[f64]) {
+    if get(row, 6) != 0 {
+        say(b", housing");
+        given(row, reals, 24);
+    }
+    if get(row, 7) != 0 {
+        say(b", height ");
+        decimal::decimal(get_real(reals, 1));
+    }
+    if get(row, 9) != 0 {
+        word(b", lamps given: ", get(row, 10));
     }
 }
 
 fn light(row: &[u64], lists: &[u64], reals: &[f64]) {
     list(b"light: lanes", row, lists, 1);
     line_choice(row, reals);
-    if get(row, 8) == 0 {
-        say(b", for vehicles");
-    } else {
-        say(b", for pedestrians");
-    }
+    signal_kind(get(row, 8));
+    equipment(row, reals);
     if get(row, 19) != 0 {
         word(b", joins rule ", get(row, 20));
     }
@@ -88,7 +111,8 @@ pub fn request(row: &[u64], lists: &[u64], reals: &[f64]) {
     match what {
         1 => stop_line(row, lists, reals),
         2 => light(row, lists, reals),
-        _ => links(row, lists),
+        3 => links(row, lists),
+        _ => say(b"a list of the request is longer than this program carries"),
     }
     say(b"\n");
 }

@@ -66,22 +66,40 @@ fn list(name: &[u8], t: &[u64], from: usize, n: u64) {
     say(b"\n");
 }
 
+fn warned(t: &[u64], n: u64) {
+    if n == 0 {
+        return;
+    }
+    say(b"  warned");
+    warnings(t, n);
+    say(b"\n");
+}
+
+// Whether a set has no entry.
+fn none(t: &[u64]) -> bool {
+    if get(t, 0) != 0 {
+        return false;
+    }
+    if get(t, 1) != 0 {
+        return false;
+    }
+    get(t, 2) == 0
+}
+
 // The lists that are not empty.
 pub fn set(t: &[u64]) {
+    if none(t) {
+        say(b"  nothing created, modified or deleted\n");
+    }
     list(b"  created", t, 4, get(t, 0));
     list(b"  modified", t, 1028, get(t, 1));
     list(b"  deleted", t, 2052, get(t, 2));
-    let n = get(t, 3);
-    if n != 0 {
-        say(b"  warned");
-        warnings(t, n);
-        say(b"\n");
-    }
+    warned(t, get(t, 3));
 }
 
 pub fn tally(created: u64, modified: u64, deleted: u64) {
-    word(b"  tally ", created);
-    word(b" ", modified);
-    word(b" ", deleted);
-    say(b"\n");
+    word(b"  tally: ", created);
+    word(b" created, ", modified);
+    word(b" modified, ", deleted);
+    say(b" deleted\n");
 }

@@ -1,16 +1,19 @@
 -- `junctions::lines` is safe and ends: the text's end comes nearer with each line. Assumes nothing.
-use lib.ListN.{length}
 use mathlib.Core.Path.{_≡_}
+use lib.ListN.{length}
 use Prim.Native.Nat.{_-_, _≤_}
 use borrow.Author.Needs.{needs}
 use Rattle.junctions.proofs.lines.Statement.{statement}
 use Rattle.junctions.proofs.lines.Tie as tie
 
 abbrev Inv-loop : tie.InvT-loop
-Inv-loop text words₀ coords₀ fold₀ set₀ buffer₀ tally₀ at₀ words coords fold set buffer tally at = (length words ≡ length words₀) × (length coords ≡ length coords₀) × (length fold ≡ length fold₀) × (length set ≡ length set₀) × (length buffer ≡ length buffer₀) × (at ≤ length text)
+Inv-loop text words₀ coords₀ fold₀ set₀ buffer₀ s₀ at₀ words coords fold set buffer s at = (length words ≡ length words₀) × (length coords ≡ length coords₀) × (length fold ≡ length fold₀) × (length set ≡ length set₀) × (length buffer ≡ length buffer₀) × (at ≤ length text)
 
 abbrev μ-loop : tie.MeasureT-loop
-μ-loop text words₀ coords₀ fold₀ set₀ buffer₀ tally₀ at₀ words coords fold set buffer tally at = length text - at
+μ-loop text words₀ coords₀ fold₀ set₀ buffer₀ s₀ at₀ words coords fold set buffer s at = length text - at
+
+start-requires : tie.Need-start-requires Inv-loop μ-loop
+start-requires c κs = search needs
 
 loop-holds : tie.Need-loop-holds Inv-loop μ-loop
 loop-holds c = search needs
@@ -26,6 +29,9 @@ loop-less c = search needs
 
 loop-again : tie.Need-loop-again Inv-loop μ-loop
 loop-again c = search needs
+
+settled-requires : tie.Need-settled-requires Inv-loop μ-loop
+settled-requires c κs = search needs
 
 same-length : tie.Need-same-length Inv-loop μ-loop
 same-length c = search needs
@@ -51,11 +57,13 @@ lines-spec =
     (tie.spec
     Inv-loop
     μ-loop
+    start-requires
     loop-holds
     line-end-requires
     line-requires
     loop-less
     loop-again
+    settled-requires
     same-length
     same-length-2
     same-length-3
