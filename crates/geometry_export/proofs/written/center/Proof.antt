@@ -24,7 +24,9 @@ returns-2 c = rw (c .before .before .t .given .1) record { code = c .number .ens
 
 returns-3 : tie.Need-returns-3
 unfolding lineOption
-returns-3 c = rw (c .before .before .before .before .before .enum-told .given .1, ne-eqb _ _ (c .before .before .if1 .left)) record { code = refl; left = refl }
+returns-3 c =
+    let d = c .before .before in
+    rw (d .before .before .before .enum-told .given .1, ne-eqb _ _ (d .if1 .left)) record { code = refl; left = refl }
 
 pub center-spec : {M : Type 1} → statement M
 center-spec =

@@ -26,7 +26,9 @@ returns-2 : tie.Need-returns-2
 returns-2 c = rw (c .before .before .before .a2 .given .1, c .enum-told .given .1) record { code = refl; left = refl }
 
 returns-3 : tie.Need-returns-3
-returns-3 c = rw (c .before .before .before .before .before .a2 .given .1, c .before .before .m .given .1) record { code = refl; left = refl }
+returns-3 c =
+    let d = c .before .before in
+    rw (d .before .before .before .a2 .given .1, d .m .given .1) record { code = refl; left = refl }
 
 pub place-spec : {M : Type 1} → statement M
 place-spec =
