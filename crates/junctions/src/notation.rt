@@ -262,10 +262,10 @@ fn explained(fault: u64) {
     }
 }
 
-// A word that is missing where a blank stands.
+// A word that is missing where a blank stands, or the end of a line after one.
 pub fn blank(b: u8) {
-    if b == 13 {
-        say(b"a carriage return; lines end in a line feed alone\n");
+    if b == 10 || b == 13 {
+        say(b"a blank or a carriage return at its end\n");
     } else {
         say(b"a blank too many\n");
     }
