@@ -1,15 +1,17 @@
-// Requests of stored samples as rows of a list of calls: a row of 26 words, and two pools for its lists. The lists of a row stand in
-// the pool of numbers from 0, 32 and 64 on; the measures in the pool of reals from 0, given points from 16, a housing from 226.
-// A request with longer lists than that makes no call. What a row asks for is shown by the replays; proved is that every text is read safely.
+// Requests of stored samples as rows of a list of calls: a row of 28 words, and two pools for its lists. The lists of a row stand in
+// the pool of numbers from 0, 32 and 64 on; in the pool of reals an offset or station stands at 0, a height at 1, given points from 2, a
+// housing from 212, the lamps from 422. There is room for 32 numbers a list, 70 points a line and twelve lamps: a request with more makes no
+// call. What a row asks for is shown by the replays; proved is that every text is read safely.
+ghost use Prim.Native.Nat.{_<_};
 use sample_text::double_at;
 use sample_text::name_at;
 use sample_text::number_at;
 
-pub const ROW: usize = 26;
+pub const ROW: usize = 28;
 
 pub const LISTS: usize = 96;
 
-pub const REALS: usize = 436;
+pub const REALS: usize = 458;
 
 fn put(t: &mut [u64], i: usize, v: u64) {
     if i < t.len() {
@@ -104,7 +106,7 @@ fn placement_into(
     let w = number_at(text, at);
     put(row, kind, w.value);
     if w.value == 2 {
-        return points_into(text, w.next, row, reals, points, 16);
+        return points_into(text, w.next, row, reals, points, 2);
     }
     let d = double_at(text, w.next);
     put_real(reals, 0, d.value);
@@ -140,7 +142,7 @@ fn housing_into(text: &[u8], at: usize, row: &mut [u64], reals: &mut [f64]) -> u
     if w.value == 0 {
         return w.next;
     }
-    points_into(text, w.next, row, reals, 24, 226)
+    points_into(text, w.next, row, reals, 24, 212)
 }
 
 fn height_into(text: &[u8], at: usize, row: &mut [u64], reals: &mut [f64]) -> usize {
@@ -151,23 +153,24 @@ fn height_into(text: &[u8], at: usize, row: &mut [u64], reals: &mut [f64]) -> us
     }
     let d = double_at(text, w.next);
     put_real(reals, 1, d.value);
+    put(row, 21, 1);
     d.next
 }
 
-// Lamp i: its point into the measures, colour and arrow into the row. Those past the fourth are passed over.
-fn lamp_into(text: &[u8], at: usize, row: &mut [u64], reals: &mut [f64], i: u64) -> usize {
-    if 3 < i {
-        let mut none = [0.0; 3];
-        let colour = reals_into(text, at, &mut none, 0, 3);
-        return number_at(text, number_at(text, colour).next).next;
-    }
-    let colour = reals_into(text, at, reals, rows::index(2 + i * 3), 3);
+// Lamp i: its point into the pool; colour and arrow of the first four into the row, which has none of the others.
+fn lamp_into(text: &[u8], at: usize, row: &mut [u64], reals: &mut [f64], i: u64) -> usize
+    requires { ⌜ i < 12 ⌝ }
+{
+    let colour = reals_into(text, at, reals, rows::index(422 + i * 3), 3);
     let c = number_at(text, colour);
     let a = number_at(text, c.next);
-    put_part(row, rows::index(11 + i * 2), c.value, a.value);
+    if i < 4 {
+        put_part(row, rows::index(10 + i * 2), c.value, a.value);
+    }
     a.next
 }
 
+// The lamps, their count in coordinates. More than there is room for make no call.
 fn lamps_into(text: &[u8], at: usize, row: &mut [u64], reals: &mut [f64]) -> usize {
     let given = number_at(text, at);
     put(row, 9, given.value);
@@ -175,8 +178,12 @@ fn lamps_into(text: &[u8], at: usize, row: &mut [u64], reals: &mut [f64]) -> usi
         return given.next;
     }
     let count = number_at(text, given.next);
-    put(row, 10, count.value);
     let n = count.value;
+    if 12 < n {
+        put(row, 0, 0);
+        return count.next;
+    }
+    put_part(row, 26, 422, n * 3);
     let mut next = count.next;
     let mut i = 0u64;
     while i < n {
@@ -188,10 +195,10 @@ fn lamps_into(text: &[u8], at: usize, row: &mut [u64], reals: &mut [f64]) -> usi
 
 fn group_into(text: &[u8], at: usize, row: &mut [u64]) {
     let w = number_at(text, at);
-    put(row, 19, w.value);
+    put(row, 18, w.value);
     if w.value != 0 {
         let group = number_at(text, w.next);
-        put(row, 20, group.value);
+        put(row, 19, group.value);
     }
 }
 

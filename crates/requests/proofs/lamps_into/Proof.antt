@@ -30,6 +30,18 @@ number-at-requires-2 c κs = search needs
 put-requires-2 : tie.Need-put-requires-2 Inv-loop μ-loop
 put-requires-2 c κs = search needs
 
+same-length-2 : tie.Need-same-length-2 Inv-loop μ-loop
+same-length-2 c = search needs
+
+returns-2 : tie.Need-returns-2 Inv-loop μ-loop
+returns-2 c = search needs
+
+mul-put-part : tie.Need-mul-put-part Inv-loop μ-loop
+mul-put-part c = search needs
+
+put-part-requires : tie.Need-put-part-requires Inv-loop μ-loop
+put-part-requires c κs = search needs
+
 loop-holds : tie.Need-loop-holds Inv-loop μ-loop
 loop-holds c = search needs
 
@@ -45,14 +57,14 @@ loop-less c = search needs
 loop-again : tie.Need-loop-again Inv-loop μ-loop
 loop-again c = search needs
 
-same-length-2 : tie.Need-same-length-2 Inv-loop μ-loop
-same-length-2 c = search needs
-
 same-length-3 : tie.Need-same-length-3 Inv-loop μ-loop
 same-length-3 c = search needs
 
-returns-2 : tie.Need-returns-2 Inv-loop μ-loop
-returns-2 c = search needs
+same-length-4 : tie.Need-same-length-4 Inv-loop μ-loop
+same-length-4 c = search needs
+
+returns-3 : tie.Need-returns-3 Inv-loop μ-loop
+returns-3 c = search needs
 
 pub lamps-into-spec : {M : Type 1} → statement M
 lamps-into-spec =
@@ -66,11 +78,15 @@ lamps-into-spec =
     returns
     number-at-requires-2
     put-requires-2
+    same-length-2
+    returns-2
+    mul-put-part
+    put-part-requires
     loop-holds
     lamp-into-requires
     add-i
     loop-less
     loop-again
-    same-length-2
     same-length-3
-    returns-2)
+    same-length-4
+    returns-3)
