@@ -5,8 +5,8 @@ use std::collections::BTreeMap;
 use std::io::{self, Write};
 
 use crate::codec::{
-    Bulb, FileMap, FileSet, MAX_ALL_POINTS, MAX_COORDINATE, MAX_RULE_LIST, MAX_RULES, MAX_SIGNALS,
-    MAX_STOP_LINES, Point, What, to_hex,
+    Bulb, FileMap, FileSet, MAX_ALL_POINTS, MAX_BULBS, MAX_COORDINATE, MAX_RULE_LIST, MAX_RULES,
+    MAX_SIGNALS, MAX_STOP_LINES, Point, What, to_hex,
 };
 use crate::edits::{
     Call, Choice, NewLight, NewLine, NewLinks, Outcome, Placement, StopRule, refusal,
@@ -248,8 +248,7 @@ impl Caller {
             },
             pedestrian: rng.percent(30),
             bulbs: if rng.percent(30) {
-                let n = rng.pick(&[0, 1, 2, 3, 4, 4, 5]);
-                Some((0..n).map(|_| bulb(rng, map)).collect())
+                Some(bulbs(rng, map))
             } else {
                 None
             },
@@ -334,6 +333,33 @@ fn bulb(rng: &mut Rng, map: &FileMap) -> Bulb {
         at,
         color: rng.below(4) as u8,
         arrow: rng.below(9) as u8,
+    }
+}
+
+fn bulbs(rng: &mut Rng, map: &FileMap) -> Vec<Bulb> {
+    let n = rng.pick(&[0, 1, 2, 3, 4, 4, 5]);
+    let mut out: Vec<Bulb> = (0..n).map(|_| bulb(rng, map)).collect();
+    if n > MAX_BULBS {
+        // Drawn aside: no such light is ever accepted, and the runs that a
+        // seed gives stay as they are.
+        more_bulbs(&mut Rng::new(rng.clone().bits()), map, &mut out);
+    }
+    out
+}
+
+/// Up to twelve lamps in all; in half of the lists one past the fourth is
+/// spoilt, so that 9 is to be asked of it before 10.
+fn more_bulbs(rng: &mut Rng, map: &FileMap, out: &mut Vec<Bulb>) {
+    for _ in 0..rng.pick(&[0, 0, 1, 3, 7]) {
+        out.push(bulb(rng, map));
+    }
+    let edge = MAX_COORDINATE;
+    let late = rng.between(MAX_BULBS, out.len() - 1);
+    match rng.below(10) {
+        0..2 => out[late].at[rng.below(3)] = rng.pick(&[edge, -edge]),
+        2..5 => out[late].at[rng.below(3)] = rng.pick(&[edge.next_up(), -edge.next_up(), 1e8]),
+        5..7 => out[late].at[rng.below(3)] = rng.pick(&[f64::NAN, f64::INFINITY, -f64::INFINITY]),
+        _ => {}
     }
 }
 

@@ -1,11 +1,13 @@
 //! Random runs: the Rust and 01's order of refusals agree, and every answer
 //! is reached.
 
+use oracle::codec::{MAX_BULBS, MAX_COORDINATE};
+use oracle::edits::{Call, Outcome};
 use oracle::generate::{Caller, Form, generate};
 use oracle::maps::{Size, random_map};
 use oracle::protocol::{Server, read_call, replay, write_call};
 use oracle::rng::Rng;
-use oracle::run::Run;
+use oracle::run::{Reason, Run, Verdict};
 
 fn agree(size: Size, runs: usize, least: usize) {
     let mut text = vec![];
@@ -49,6 +51,39 @@ fn calls_as_text() {
             assert_eq!(write_call(&back), text);
         }
     }
+}
+
+/// 9 is asked of every lamp, also of those past the fourth, and 10 after it.
+#[test]
+fn lamps_past_the_fourth() {
+    let mut rng = Rng::new(10);
+    let (mut late, mut full) = (0, 0);
+    for _ in 0..1000 {
+        let mut run = Run::open(random_map(&mut rng, Size::Small));
+        let caller = Caller::new(&run);
+        for _ in 0..20 {
+            let call = caller.call(&mut rng, &run);
+            let verdict = run.call(&call);
+            let Call::Light(light) = &call else { continue };
+            let Some(bulbs) = light.bulbs.as_ref().filter(|b| b.len() > MAX_BULBS) else {
+                continue;
+            };
+            let bad = |at: &[f64; 3]| at.iter().any(|c| !(c.abs() <= MAX_COORDINATE));
+            match verdict {
+                Verdict::LeftOut(Reason::OffMap, _) => {
+                    late += usize::from(!bulbs[..MAX_BULBS].iter().any(|b| bad(&b.at)));
+                }
+                Verdict::LeftOut(Reason::Full, _) => {
+                    assert!(!bulbs.iter().any(|b| bad(&b.at)), "{}", write_call(&call));
+                    full += 1;
+                }
+                Verdict::LeftOut(..) => {}
+                Verdict::Answer(o) => assert!(matches!(o, Outcome::Refused(_))),
+                Verdict::Disagree(d) => panic!("{d:?}"),
+            }
+        }
+    }
+    assert!(late >= 30 && full >= 30, "{late} {full}");
 }
 
 #[test]

@@ -227,6 +227,37 @@ fn seventeen_lanes_without_a_rule() {
     assert_eq!(s.call(&Call::Line(line)), full);
 }
 
+/// 9 for a fifth lamp comes before 10 for five.
+#[test]
+fn five_lamps() {
+    let lamp = |x: f64| Bulb {
+        at: [x, 0.0, 5.0],
+        color: 0,
+        arrow: 0,
+    };
+    let edge = MAX_COORDINATE;
+    let (off, full) = (
+        Verdict::LeftOut(Reason::OffMap, Refusal::new(9, &[])),
+        Verdict::LeftOut(Reason::Full, Refusal::new(10, &[])),
+    );
+    for (fifth, want) in [
+        (10.0, &full),
+        (edge, &full),
+        (edge.next_up(), &off),
+        (f64::INFINITY, &off),
+        (f64::NAN, &off),
+    ] {
+        let Call::Light(mut light) = plain_light(&[3]) else {
+            unreachable!()
+        };
+        let mut bulbs = vec![lamp(10.0); 4];
+        bulbs.push(lamp(fifth));
+        light.bulbs = Some(bulbs);
+        let mut s = Run::open(crossing(2.0));
+        assert_eq!(s.call(&Call::Light(light)), *want, "{fifth}");
+    }
+}
+
 #[test]
 fn numbers_spent() {
     let mut map = crossing(2.0);
