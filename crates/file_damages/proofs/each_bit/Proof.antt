@@ -14,6 +14,9 @@ abbrev μ-loop : tie.MeasureT-loop
 loop-holds : tie.Need-loop-holds Inv-loop μ-loop
 loop-holds c = search needs
 
+bit-requires : tie.Need-bit-requires Inv-loop μ-loop
+bit-requires c κs = search needs
+
 flipped-requires : tie.Need-flipped-requires Inv-loop μ-loop
 flipped-requires c κs = search needs
 
@@ -48,6 +51,7 @@ each-bit-spec =
     Inv-loop
     μ-loop
     loop-holds
+    bit-requires
     flipped-requires
     add-k
     loop-less
