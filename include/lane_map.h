@@ -3,7 +3,9 @@
 
    Every call is handed its memory and answers for every input: nothing is required of lengths, numbers or contents but that the
    memory is there and that no two pieces that are written overlap anything else that is lent. A slice is a pointer and a count
-   of its elements. A refused call leaves all memory as it was, but the answer that it writes. */
+   of its elements. A refused call leaves all memory as it was, but the answer that it writes.
+
+   Stack: a call works in memory of its own, on the stack of its caller's thread: lend it 192 KB. */
 #ifndef LANE_MAP_H
 #define LANE_MAP_H
 
@@ -20,13 +22,17 @@ extern "C" {
 #define LANE_MAP_WORDS 13671   /* words:  the map's records */
 #define LANE_MAP_COORDS 105280 /* coords: the map's coordinates */
 #define LANE_MAP_SET 3556      /* fold:   the running fold; set: the change set of the last accepted call */
-#define LANE_MAP_ROW 26        /* a row of a list of calls */
+#define LANE_MAP_ROW 28        /* a row of a list of calls */
 
 /* The tally: how many entries the running fold has as created, modified and deleted.
 
    An answer is four words, and its first word is the result too:
-     0 done, 1 to 14 the refusal, 15 no call (a number is no case of its enum); the number of the record that was made or linked;
-     the two details of a refusal. A word that has nothing to say is 0.
+     0 done, 1 to 14 the refusal, 255 no such call; the number of the record that was made or linked; the two details of a refusal.
+     A word that has nothing to say is 0.
+
+   No such call: a number that the call reads is no case of its enum, or a part of a pool that it reads does not lie within the pool.
+   12 and 13 come before it, as before every other answer. What a call does not read is not looked at and may be anything: below,
+   "read where" says when a number or a slice is read.
 
    Refusals: 1 no lanes; 2 unknown record (its kind, its number); 3 listed twice (1 lanes, 2 crosswalks, 3 lines);
    4 bad measure (1 height, 2 offset, 3 station); 5 bad shape (1 not finite, 2 too short); 6 no place (1 no lane geometry, 2 empty,
@@ -37,8 +43,9 @@ extern "C" {
    Kinds of records: 1 lane, 5 stop line, 6 signal, 7 crosswalk, 8 rule. */
 
 /* A stop line across the lanes.
-   placement: 0 at the first lane's end, 1 at a station, 2 at the given coordinates (x, y, z of each point).
-   measure:   the offset before the end, or the station, in metres; read for placements 0 and 1.
+   placement: 0 at the first lane's end, 1 at a station, 2 at the given coordinates.
+   measure:   the offset before the end, or the station, in metres, read where the placement is 0 or 1.
+   given:     x, y, z of each point, read where the placement is 2.
    rule:      0 stop sign, 1 marking, 2 none. */
 uint64_t lane_map_add_stop_line(
     uint64_t *words, size_t words_len, double *coords, size_t coords_len,
@@ -47,18 +54,28 @@ uint64_t lane_map_add_stop_line(
     const double *given, size_t given_len, uint64_t rule, uint64_t answer[4]);
 
 /* A traffic light.
-   numbers: 0 choice of the line (0 automatic, 1 existing, 2 new, 3 none), 1 the existing line, 2 placement of a new one as above,
-            3 whether the housing is given, 4 whether the height is given, 5 kind (0 vehicle, 1 pedestrian),
-            6 whether the lamps are given, 7 how many (at most 4), 8 to 15 colour and arrow of four lamps
-            (colours: 0 red, 1 yellow, 2 green, 3 white; arrows: 0 none, 1 up, 2 down, 3 left, 4 right, 5 up left, 6 up right,
-            7 down left, 8 down right), 16 whether a group is given, 17 the light that it joins. Whether: 0 no, any other yes.
-   measures: 0 offset or station of a new line, 1 height, 2 to 13 x, y, z of four lamps.
-   points: the coordinates of a new line that is given; housing: those of the housing's lower edge. */
+   numbers: 0 choice of the line (0 automatic, 1 existing, 2 new, 3 none)
+            1 the existing line, read where the choice is 1
+            2 placement of a new line as above, read where the choice is 2
+            3 whether the housing is given, 4 whether the height is given (whether: 0 no, any other number yes)
+            5 kind (0 vehicle, 1 pedestrian)
+            6 whether the lamps are given
+            7 to 14 colour and arrow of the first four lamps, read of the lamps that are given
+              (colours: 0 red, 1 yellow, 2 green, 3 white; arrows: 0 none, 1 up, 2 down, 3 left, 4 right, 5 up left, 6 up right,
+              7 down left, 8 down right)
+            15 whether a group is given, 16 the light that it joins, read where it is given
+   measure: the offset or station of a new line, read where the choice is 2 and the placement 0 or 1
+   height:  in metres, read where it is given
+   points:  the coordinates of a new line, read where the choice is 2 and the placement 2
+   housing: those of the housing's lower edge, read where it is given
+   lamps:   x, y, z of each lamp, any number of them, read where they are given. A lamp that is off the map or not finite is 9, and a
+            coordinate that is missing at the end is not finite; then more than four lamps are 10. */
 uint64_t lane_map_add_traffic_signal(
     uint64_t *words, size_t words_len, double *coords, size_t coords_len,
     uint64_t *fold, size_t fold_len, uint64_t tally[3], uint64_t *set, size_t set_len,
-    const uint64_t *lanes, size_t lanes_len, const uint64_t numbers[18], const double measures[14],
-    const double *points, size_t points_len, const double *housing, size_t housing_len, uint64_t answer[4]);
+    const uint64_t *lanes, size_t lanes_len, const uint64_t numbers[17], double measure, double height,
+    const double *points, size_t points_len, const double *housing, size_t housing_len,
+    const double *lamps, size_t lamps_len, uint64_t answer[4]);
 
 /* The lanes, crosswalks and stop lines of a rule. */
 uint64_t lane_map_set_regulatory_links(
@@ -67,13 +84,17 @@ uint64_t lane_map_set_regulatory_links(
     uint64_t rule, const uint64_t *lanes, size_t lanes_len, const uint64_t *crosswalks, size_t crosswalks_len,
     const uint64_t *stop_lines, size_t stop_lines_len, uint64_t answer[4]);
 
-/* A list of calls, carried out one after another: rows of 26 words; their lists stand in two pools. A place and a count name a part
-   of a pool; a part that does not lie within it makes no call (15).
-     word 0: 1 stop line, 2 light, 3 links; words 1, 2: place and count of the lanes in lists
+/* A list of calls, carried out one after another: rows of 28 words; their lists stand in two pools. A place and a count name a part
+   of a pool. A part that the call reads must lie within its pool, also where it is empty; else the row is no such call (255), and the
+   rows after it go on.
+     word 0: 1 stop line, 2 light, 3 links, anything else no such call; words 1, 2: place and count of the lanes in lists
      stop line: 3 placement, 4 rule, 5 place of the measure in reals, 6, 7 place and count of the given coordinates in reals
-     light:     3 to 20 its numbers, 21 place of its fourteen measures in reals, 22, 23 the points, 24, 25 the housing, in reals
+     light:     3 to 19 its numbers, 20 place of the measure in reals, 21 of the height, 22, 23 place and count of the points, 24, 25 of
+                the housing, 26, 27 of the lamps, in reals
      links:     3 rule, 4, 5 crosswalks, 6, 7 stop lines, in lists
-   answers: four words a row. The result: 0, or 12, 13 or 14 (answers too short), where nothing was carried out. */
+   Words that are not named, and those of a part that the call does not read, may be anything.
+   answers: four words a row. The result: 0, or, where nothing was carried out, 12 or 13 as a single call has them, then 14 where
+   answers is too short; so for a list without rows too. */
 uint64_t lane_map_run_calls(
     uint64_t *words, size_t words_len, double *coords, size_t coords_len,
     uint64_t *fold, size_t fold_len, uint64_t tally[3], uint64_t *set, size_t set_len,
@@ -85,8 +106,8 @@ uint64_t lane_map_run_calls(
    file:    the bytes of the map file. What words, coords, fold and tally hold before the call has no meaning.
    written: two words, 0 and how many bytes were written, or 14 and 0 where the buffer is too short: then the buffer stays, but the
             run has been carried out, and lane_map_write_changes writes its fold into a longer one.
-   The result: 0, or 12 (slices of other lengths, bytes that are no map file), 13 or 14 (answers too short), where nothing was
-   carried out and all memory is as it was, written too. */
+   The result: 0, or, where nothing was carried out and all memory is as it was, written too: 12 (words or coords of other lengths,
+   then bytes that are no map file), then 13 (fold or set of another length), then 14 (answers too short). */
 uint64_t lane_map_run_opened(
     const uint8_t *file, size_t file_len,
     uint64_t *words, size_t words_len, double *coords, size_t coords_len,

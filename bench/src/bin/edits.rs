@@ -1,11 +1,12 @@
 //! edits [CALLS] [SEED]: random calls in runs, the proved edits beside the Rust's. After each call: answer and details, change
 //! set bytes, map bytes, fold bytes, tally; after a refusal, every byte of the lent memory. Where 01 answers and the Rust does
-//! not (9, 10, 11, an absent line), the comparison is with the model of 01.
+//! not (9, 10, 11, an absent line), the comparison is with the model of 01. Numbers that are no case of their enum, and memory that
+//! is no opened map's, are tried beside them.
 
-use bench::edits::{Args, Lent, carried, outcome};
+use bench::edits::{Lent, NO_CALL, damage, draw, outcome};
 use bench::tables::set_of;
-use oracle::codec::{write_map, write_set};
-use oracle::edits::{Call, Outcome};
+use oracle::codec::{MAX_BULBS, write_map, write_set};
+use oracle::edits::{Call, NewLight, Outcome};
 use oracle::generate::Caller;
 use oracle::maps::{Size, random_map};
 use oracle::protocol::write_call;
@@ -29,7 +30,9 @@ fn main() {
     let seed: u64 = args.next().map_or(1, |a| a.parse().unwrap());
     let mut rng = Rng::new(seed);
     let mut hits: BTreeMap<(u8, u64), usize> = BTreeMap::new();
-    let (mut asked, mut done, mut runs, mut differ) = (0, 0, 0, 0);
+    let (mut asked, mut done, mut runs, mut none, mut differ) = (0, 0, 0, 0, 0);
+    // 9 and 10 of lights with more than four lamps
+    let mut many = [0; 2];
     while asked < calls {
         let size = match rng.below(10) {
             0..6 => Size::Small,
@@ -42,11 +45,20 @@ fn main() {
         smear(&mut lent, &mut rng);
         runs += 1;
         for _ in 0..rng.between(1, 40) {
-            let call = carried(caller.call(&mut rng, &run));
+            let (call, args) = draw(&caller, &mut rng, &run);
             let before = lent.clone();
+            if rng.percent(10) {
+                let (_, mut spoilt) = draw(&caller, &mut rng, &run);
+                if spoilt.spoil(&mut rng) {
+                    none += 1;
+                    let answer = lent.call(&spoilt);
+                    assert_eq!(answer, [NO_CALL, 0, 0, 0]);
+                    assert!(lent.same(&before));
+                }
+            }
             let file = write_map(&run.file);
             let fold = run.fold_bytes();
-            let got = outcome(lent.call(&Args::of(&call)));
+            let got = outcome(lent.call(&args));
             asked += 1;
             let good = match run.call(&call) {
                 Verdict::Answer(Outcome::Done { number, set }) => {
@@ -65,6 +77,12 @@ fn main() {
                             == [f.created.len(), f.modified.len(), f.deleted.len()]
                 }
                 Verdict::Answer(Outcome::Refused(r)) | Verdict::LeftOut(_, r) => {
+                    if let Call::Light(NewLight { bulbs: Some(b), .. }) = &call
+                        && b.len() > MAX_BULBS
+                        && let 9 | 10 = r.number
+                    {
+                        many[usize::from(r.number) - 9] += 1;
+                    }
                     *hits
                         .entry((r.number, r.details.first().copied().unwrap_or(0)))
                         .or_default() += 1;
@@ -86,6 +104,10 @@ fn main() {
         }
     }
     println!("{asked} calls in {runs} runs, {done} carried out, {differ} differences");
+    println!(
+        "more than four lamps: 9: {}, 10: {}; {none} that were no call",
+        many[0], many[1]
+    );
     let one = |(n, d): &(u8, u64), c: &usize| match n {
         2..=8 => format!("{n}/{d}: {c}"),
         _ => format!("{n}: {c}"),
@@ -96,46 +118,23 @@ fn main() {
     std::process::exit((differ > 0).into());
 }
 
-/// Memory that is no opened map's: 12 and 13, each before all else, and nothing altered.
+/// Memory that is no opened map's: 12 and 13, each before all else, also before what is no call, and nothing altered.
 fn foreign(rng: &mut Rng) {
     let mut refused = BTreeMap::new();
-    for _ in 0..2_000 {
+    while refused.values().sum::<usize>() < 2_000 {
         let run = Run::open(random_map(rng, Size::Small));
         let caller = Caller::new(&run);
-        let call = caller.call(rng, &run);
+        let (call, mut args) = draw(&caller, rng, &run);
+        let none = rng.percent(30) && args.spoil(rng);
         let mut lent = Lent::open(&run.file);
-        let map_bad = rng.percent(50);
-        let fold_bad = !map_bad || rng.percent(50);
-        if map_bad {
-            match rng.below(4) {
-                0 => lent.tables.words[1 + rng.below(6)] = 129 + rng.below(1000) as u64,
-                1 => lent.tables.words.push(0),
-                2 => drop(lent.tables.coords.pop()),
-                _ => {
-                    lent.tables.words[0] = 9;
-                    lent.tables.words[2] = 2;
-                    lent.tables.words[519..523].copy_from_slice(&[5, 0, 5, 0]);
-                }
-            }
-        }
-        if fold_bad {
-            match rng.below(5) {
-                0 => lent.tally[rng.below(3)] = 1,
-                1 => lent.fold[3] = 1,
-                2 => drop(lent.fold.pop()),
-                3 => drop(lent.set.pop()),
-                _ => {
-                    lent.fold[0] = 1;
-                    lent.fold[4] = 8;
-                    lent.fold[5] = u64::MAX;
-                    lent.tally[0] = 1;
-                }
-            }
-        }
+        let want = match damage(&mut lent, rng, 50) {
+            0 if none => NO_CALL,
+            0 => continue,
+            bad => bad,
+        };
         let before = lent.clone();
-        let got = lent.call(&Args::of(&call));
-        let want = if map_bad { 12 } else { 13 };
-        assert_eq!(got[0], want, "{}", write_call(&call));
+        let got = lent.call(&args);
+        assert_eq!(got, [want, 0, 0, 0], "{}", write_call(&call));
         assert!(lent.same(&before));
         *refused.entry(want).or_insert(0) += 1;
     }

@@ -1,18 +1,60 @@
-//! runs [RUNS] [SEED]: random runs handed over whole: a map file and a list of calls, carried out by one call of the proved code,
-//! beside the Rust's run. Compared: each row's four words, the map, the fold and its file, the tally, the last change set; a
-//! buffer that is too short; and every byte that was lent where the run is refused.
+//! runs [RUNS] [SEED]: random runs handed over whole, beside the Rust's run: a map file and a list of calls, carried out by one call
+//! of the proved code; and the same list on tables that are open. Compared: each row's four words, the map, the fold and its file,
+//! the tally, the last change set; a buffer that is too short; and every byte that was lent where the run is refused.
 
-use bench::edits::{Args, Lent, carried};
+use bench::edits::{Args, Lent, NO_CALL, damage, draw};
 use bench::files::run_opened;
 use bench::tables::set_of;
-use oracle::codec::{FileSet, write_map, write_set};
+use oracle::codec::{FileSet, to_hex, write_map, write_set};
 use oracle::edits::{Call, Outcome};
 use oracle::generate::Caller;
 use oracle::maps::{Size, random_map};
 use oracle::rng::Rng;
 use oracle::run::{Run, Verdict};
 
-/// Rows of 26 words and the two pools that their lists stand in.
+const ROW: usize = 28;
+
+fn noise(rng: &mut Rng, n: usize) -> Vec<u64> {
+    (0..n).map(|_| rng.bits()).collect()
+}
+
+/// A row, in which what is not read is anything; and the words of the places that it reads, with whether a count follows.
+struct Row {
+    words: [u64; ROW],
+    places: Vec<(usize, bool)>,
+}
+
+impl Row {
+    fn new(rng: &mut Rng, what: u64) -> Self {
+        let mut words = [0; ROW];
+        words.fill_with(|| rng.bits());
+        words[0] = what;
+        Row {
+            words,
+            places: vec![],
+        }
+    }
+
+    fn part(&mut self, word: usize, [place, count]: [u64; 2]) {
+        self.words[word] = place;
+        self.words[word + 1] = count;
+        self.places.push((word, true));
+    }
+
+    fn real(&mut self, word: usize, [place, _]: [u64; 2]) {
+        self.words[word] = place;
+        self.places.push((word, false));
+    }
+
+    /// What is read at one of the places lies outside its pool.
+    fn move_out(&mut self, rng: &mut Rng) {
+        let (word, counted) = rng.pick(&self.places);
+        let word = if counted { word + rng.below(2) } else { word };
+        self.words[word] = u64::MAX - rng.below(3) as u64;
+    }
+}
+
+/// Rows and the two pools that their lists stand in.
 #[derive(Default)]
 struct Calls {
     rows: Vec<u64>,
@@ -33,8 +75,7 @@ impl Calls {
         [at, reals.len() as u64]
     }
 
-    fn push(&mut self, args: &Args) {
-        let mut row = [0; 26];
+    fn row(&mut self, rng: &mut Rng, args: &Args) -> Row {
         match args {
             Args::Line {
                 lanes,
@@ -43,64 +84,101 @@ impl Calls {
                 given,
                 rule,
             } => {
-                row[0] = 1;
-                row[1..3].copy_from_slice(&self.list(lanes));
-                row[3] = *placement;
-                row[4] = *rule;
-                row[5] = self.reals(&[*measure])[0];
-                row[6..8].copy_from_slice(&self.reals(given));
+                let mut row = Row::new(rng, 1);
+                row.part(1, self.list(lanes));
+                row.words[3] = *placement;
+                row.words[4] = *rule;
+                match placement {
+                    0 | 1 => row.real(5, self.reals(&[*measure])),
+                    2 => row.part(6, self.reals(given)),
+                    _ => {}
+                }
+                row
             }
-            Args::Light {
-                lanes,
-                numbers,
-                measures,
-                points,
-                housing,
-            } => {
-                row[0] = 2;
-                row[1..3].copy_from_slice(&self.list(lanes));
-                row[3..21].copy_from_slice(numbers);
-                row[21] = self.reals(measures)[0];
-                row[22..24].copy_from_slice(&self.reals(points));
-                row[24..26].copy_from_slice(&self.reals(housing));
+            Args::Light(l) => {
+                let mut row = Row::new(rng, 2);
+                row.part(1, self.list(&l.lanes));
+                row.words[3..20].copy_from_slice(&l.numbers);
+                if l.measured() {
+                    row.real(20, self.reals(&[l.measure]));
+                }
+                if l.numbers[4] != 0 {
+                    row.real(21, self.reals(&[l.height]));
+                }
+                for (word, read, reals) in [
+                    (22, l.pointed(), &l.points),
+                    (24, l.numbers[3] != 0, &l.housing),
+                    (26, l.numbers[6] != 0, &l.lamps),
+                ] {
+                    if read {
+                        row.part(word, self.reals(reals));
+                    }
+                }
+                row
             }
             Args::Links(l) => {
-                row[0] = 3;
-                row[1..3].copy_from_slice(&self.list(&l.lanes));
-                row[3] = l.rule;
-                row[4..6].copy_from_slice(&self.list(&l.crosswalks));
-                row[6..8].copy_from_slice(&self.list(&l.lines));
+                let mut row = Row::new(rng, 3);
+                row.part(1, self.list(&l.lanes));
+                row.words[3] = l.rule;
+                row.part(4, self.list(&l.crosswalks));
+                row.part(6, self.list(&l.lines));
+                row
             }
         }
-        self.rows.extend(row);
     }
 
-    /// A row that asks for nothing, or for a list outside its pool.
-    fn no_call(&mut self, rng: &mut Rng) {
-        let mut row = [0; 26];
-        row[0] = rng.pick(&[0, 4, u64::MAX, 3]);
-        row[1] = u64::MAX - rng.below(2) as u64;
-        row[2] = 1 + rng.below(3) as u64;
-        self.rows.extend(row);
+    /// A row that asks for nothing, for what is no case, or for a part outside its pool.
+    fn no_call(&mut self, rng: &mut Rng, mut args: Args) {
+        let row = match rng.below(3) {
+            0 => {
+                let what = rng.pick(&[0, 4, u64::MAX]);
+                Row::new(rng, what)
+            }
+            1 if args.spoil(rng) => self.row(rng, &args),
+            _ => {
+                let mut row = self.row(rng, &args);
+                row.move_out(rng);
+                row
+            }
+        };
+        self.rows.extend(row.words);
+    }
+
+    /// A row whose lanes are one more than the pool has from there on.
+    fn past_the_end(&mut self, rng: &mut Rng) {
+        let mut row = Row::new(rng, 3);
+        let back = rng.below(self.lists.len().min(3) + 1) as u64;
+        row.part(1, [self.lists.len() as u64 - back, back + 1]);
+        row.part(4, [0, 0]);
+        row.part(6, [0, 0]);
+        self.rows.extend(row.words);
     }
 }
 
-/// A run by the Rust: the calls as rows, and what each row is to be answered.
-fn rust_run(rng: &mut Rng, run: &mut Run, last: &mut FileSet) -> (Calls, Vec<u64>) {
+/// A run by the Rust: the calls as rows, what each row is to be answered, and the last change set.
+struct Wanted {
+    calls: Calls,
+    answers: Vec<u64>,
+    last: Option<FileSet>,
+}
+
+fn rust_run(rng: &mut Rng, run: &mut Run) -> Wanted {
     let caller = Caller::new(run);
     let mut calls = Calls::default();
     let mut answers = vec![];
+    let mut last = None;
     for _ in 0..rng.between(0, 40) {
-        if rng.percent(5) {
-            calls.no_call(rng);
-            answers.extend([15, 0, 0, 0]);
+        let (call, args) = draw(&caller, rng, run);
+        if rng.percent(8) {
+            calls.no_call(rng, args);
+            answers.extend([NO_CALL, 0, 0, 0]);
             continue;
         }
-        let call = carried(caller.call(rng, run));
-        calls.push(&Args::of(&call));
+        let row = calls.row(rng, &args);
+        calls.rows.extend(row.words);
         answers.extend(match run.call(&call) {
             Verdict::Answer(Outcome::Done { number, set }) => {
-                *last = set;
+                last = Some(set);
                 match &call {
                     Call::Links(l) => [0, l.rule, 0, 0],
                     _ => [0, number, 0, 0],
@@ -113,11 +191,144 @@ fn rust_run(rng: &mut Rng, run: &mut Run, last: &mut FileSet) -> (Calls, Vec<u64
             _ => panic!("the Rust and the model disagree"),
         });
     }
-    (calls, answers)
+    if rng.percent(20) {
+        calls.past_the_end(rng);
+        answers.extend([NO_CALL, 0, 0, 0]);
+    }
+    // an incomplete row is passed over
+    let rest = if rng.percent(20) { rng.below(ROW) } else { 0 };
+    calls.rows.extend(noise(rng, rest));
+    Wanted {
+        calls,
+        answers,
+        last,
+    }
 }
 
-fn noise(rng: &mut Rng, n: usize) -> Vec<u64> {
-    (0..n).map(|_| rng.bits()).collect()
+/// Whether the memory is where the Rust's run ends, and the answers are those that it wants.
+fn left(want: &Wanted, run: &Run, lent: &Lent, set: &[u64], answers: &[u64], old: &[u64]) -> bool {
+    let n = want.answers.len();
+    let fold = lent.fold_set();
+    let tally = [fold.created.len(), fold.modified.len(), fold.deleted.len()];
+    let last = want.last.clone().unwrap_or_else(|| set_of(set));
+    answers[..n] == want.answers
+        && answers[n..] == old[n..]
+        && write_map(&lent.tables.map()) == run.map_bytes()
+        && write_set(&fold) == run.fold_bytes()
+        && lent.tally.map(|n| n as usize) == tally
+        && write_set(&set_of(&lent.set)) == write_set(&last)
+}
+
+/// Room for the answers: in some runs too short, which is 14 where nothing else is wrong.
+fn room(rng: &mut Rng, want: &Wanted, percent: usize) -> (Vec<u64>, bool) {
+    let n = want.answers.len();
+    let short = n > 0 && rng.percent(percent);
+    let n = if short { n - 1 } else { n + rng.below(9) };
+    (noise(rng, n), short)
+}
+
+/// How many runs were carried out, with how many rows, and the refusals.
+#[derive(Default)]
+struct Counts {
+    done: usize,
+    rows: usize,
+    refused: [usize; 3],
+    /// Refused for no rows at all.
+    empty: usize,
+}
+
+impl Counts {
+    fn note(&mut self, code: u64, want: &Wanted) {
+        if code == 0 {
+            self.done += 1;
+            self.rows += want.answers.len() / 4;
+        } else {
+            self.refused[code as usize - 12] += 1;
+            self.empty += usize::from(want.answers.is_empty());
+        }
+    }
+
+    fn text(&self) -> String {
+        let [a, b, c] = self.refused;
+        format!(
+            "{} carried out with {} rows, refused 12: {a}, 13: {b}, 14: {c}, of them without rows {}",
+            self.done, self.rows, self.empty
+        )
+    }
+}
+
+/// From a map file to the change set file of the running fold. What stands in the tables before must not matter.
+fn from_file(rng: &mut Rng, file: &[u8], run: &Run, want: &Wanted, counts: &mut Counts) -> bool {
+    let mut file = file.to_vec();
+    let mut lent = Lent::open(&random_map(rng, Size::Small));
+    lent.fold = noise(rng, lent.fold.len());
+    lent.tally = [rng.bits(); 3];
+    let form = run.fold_bytes();
+    let (mut answers, short) = room(rng, want, 10);
+    let room = rng.pick(&[form.len() - 1, form.len(), form.len() + 7, 5_000]);
+    let mut buffer: Vec<u8> = (0..room).map(|_| rng.bits() as u8).collect();
+    let mut written = [rng.bits(); 2];
+    let (map_bad, set_bad) = (rng.percent(12), rng.percent(12));
+    if map_bad {
+        match rng.below(3) {
+            0 => file.push(0),
+            1 => lent.tables.words.push(0),
+            _ => drop(lent.tables.coords.pop()),
+        }
+    }
+    if set_bad {
+        if rng.percent(50) {
+            lent.set.push(0);
+        } else {
+            lent.fold.pop();
+        }
+    }
+    let code = match (map_bad, set_bad, short) {
+        (true, _, _) => 12,
+        (_, true, _) => 13,
+        (_, _, true) => 14,
+        _ => 0,
+    };
+    counts.note(code, want);
+    let old = (lent.clone(), answers.clone(), buffer.clone(), written);
+    let got = run_opened(
+        &file,
+        &mut lent,
+        [&want.calls.rows, &want.calls.lists],
+        &want.calls.reals,
+        &mut answers,
+        &mut buffer,
+        &mut written,
+    );
+    if code > 0 {
+        let kept = lent.same(&old.0) && answers == old.1 && buffer == old.2;
+        return got == code && kept && written == old.3;
+    }
+    let file_good = if room >= form.len() {
+        let n = form.len();
+        written == [0, n as u64] && buffer[..n] == form && buffer[n..] == old.2[n..]
+    } else {
+        written == [14, 0] && buffer == old.2
+    };
+    got == 0 && file_good && left(want, run, &lent, &old.0.set, &answers, &old.1)
+}
+
+/// On tables that are open: 12 and 13 as a single call tests them, then 14.
+fn on_tables(rng: &mut Rng, open: &Run, run: &Run, want: &Wanted, counts: &mut Counts) -> bool {
+    let mut lent = Lent::open(&open.file);
+    let (mut answers, short) = room(rng, want, 15);
+    let code = match damage(&mut lent, rng, 15) {
+        0 if short => 14,
+        bad => bad,
+    };
+    counts.note(code, want);
+    let old = (lent.clone(), answers.clone());
+    let lists = [&want.calls.rows[..], &want.calls.lists[..]];
+    let got = lent.run_calls(lists, &want.calls.reals, &mut answers);
+    if code > 0 {
+        return got == code && lent.same(&old.0) && answers == old.1;
+    }
+    got == 0 && left(want, run, &lent, &old.0.set, &answers, &old.1)
 }
 
 fn main() {
@@ -125,93 +336,30 @@ fn main() {
     let runs: usize = args.next().map_or(2_000, |a| a.parse().unwrap());
     let seed: u64 = args.next().map_or(1, |a| a.parse().unwrap());
     let mut rng = Rng::new(seed);
-    let (mut rows, mut short, mut refused, mut differ) = (0, 0, [0; 15], 0);
+    let (mut opened, mut called, mut differ) = (Counts::default(), Counts::default(), 0);
     for _ in 0..runs {
         let size = match rng.below(10) {
             0..6 => Size::Small,
             6..9 => Size::Medium,
             _ => Size::Large,
         };
-        let mut run = Run::open(random_map(&mut rng, size));
-        let mut file = write_map(&run.file);
-        // what stands in the tables before the opening must not matter
-        let mut lent = Lent::open(&random_map(&mut rng, Size::Small));
-        lent.fold = noise(&mut rng, lent.fold.len());
-        lent.tally = [rng.bits(); 3];
-        let mut last = set_of(&lent.set);
-        let (calls, want) = rust_run(&mut rng, &mut run, &mut last);
-        let form = run.fold_bytes();
-        let spare = rng.below(9);
-        let mut answers = noise(&mut rng, want.len() + spare);
-        let room = rng.pick(&[form.len() - 1, form.len(), form.len() + 7, 5_000]);
-        let mut buffer: Vec<u8> = (0..room).map(|_| rng.bits() as u8).collect();
-        let mut written = [rng.bits(); 2];
-        let fault = match rng.below(12) {
-            0 => {
-                file.push(0);
-                12
-            }
-            1 => {
-                lent.tables.coords.pop();
-                12
-            }
-            2 => {
-                lent.set.push(0);
-                13
-            }
-            3 if !want.is_empty() => {
-                answers.truncate(want.len() - 1);
-                14
-            }
-            _ => 0,
-        };
-        let before = (lent.clone(), answers.clone(), buffer.clone(), written);
-        let code = run_opened(
-            &file,
-            &mut lent,
-            [&calls.rows, &calls.lists],
-            &calls.reals,
-            &mut answers,
-            &mut buffer,
-            &mut written,
-        );
-        refused[fault as usize] += 1;
-        let good = if fault > 0 {
-            let kept = lent.same(&before.0) && answers == before.1 && buffer == before.2;
-            code == fault && kept && written == before.3
-        } else {
-            rows += want.len() / 4;
-            let fits = room >= form.len();
-            short += usize::from(!fits);
-            let fold = lent.fold_set();
-            let file_good = if fits {
-                let n = form.len();
-                written == [0, n as u64] && buffer[..n] == form && buffer[n..] == before.2[n..]
-            } else {
-                written == [14, 0] && buffer == before.2
-            };
-            let tally = [fold.created.len(), fold.modified.len(), fold.deleted.len()];
-            code == 0
-                && file_good
-                && answers[..want.len()] == want
-                && answers[want.len()..] == before.1[want.len()..]
-                && write_map(&lent.tables.map()) == run.map_bytes()
-                && write_set(&fold) == form
-                && lent.tally.map(|n| n as usize) == tally
-                && write_set(&set_of(&lent.set)) == write_set(&last)
-        };
-        if !good {
+        let open = Run::open(random_map(&mut rng, size));
+        let mut run = open.clone();
+        let want = rust_run(&mut rng, &mut run);
+        let file = open.map_bytes();
+        let a = from_file(&mut rng, &file, &run, &want, &mut opened);
+        let b = on_tables(&mut rng, &open, &run, &want, &mut called);
+        if !(a && b) {
             differ += 1;
             if differ <= 3 {
-                println!("difference: code {code}, written {written:?}");
-                println!("  map {}", oracle::codec::to_hex(&file));
-                println!("  rows {:?}", calls.rows);
+                println!("difference: from the file {a}, on open tables {b}");
+                println!("  map {}", to_hex(&file));
+                println!("  rows {:?}", want.calls.rows);
             }
         }
     }
-    println!(
-        "{runs} runs, {} carried out with {rows} rows, {short} of them into a buffer too short; refused 12: {}, 13: {}, 14: {}; {differ} differences",
-        refused[0], refused[12], refused[13], refused[14]
-    );
+    println!("{runs} runs, {differ} differences");
+    println!("from a file: {}", opened.text());
+    println!("on open tables: {}", called.text());
     std::process::exit((differ > 0).into());
 }

@@ -5,3 +5,4 @@ pub mod Walk
 pub mod Ends
 pub mod Decode
 pub mod Numbers
+pub mod OneByOne

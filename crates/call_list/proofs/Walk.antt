@@ -1,7 +1,6 @@
 -- A list of calls, row by row: what is left to do at row i, and what the end is. Assumes nothing.
-use Prim.Native.Nat.{ℕ, zero, suc, _+_, _-_, _*_, _≤_, _<_}
-use mathlib.Core.Path.{_≡_, refl, sym, ap, subst, _∙_}
-use mathlib.Core.Bool.{Bool, true, false}
+use Prim.Native.Nat.{ℕ, _+_, _-_, _*_, _≤_, _<_}
+use mathlib.Core.Path.{_≡_, refl, sym, ap, _∙_}
 use mathlib.Core.Option.{Option, none, some}
 use mathlib.Core.List.{List, [], _∷_, _++_, append-assoc, append-nil}
 use lib.ListN.{length, take, drop, length-take, length-append, take-append-drop}
@@ -10,31 +9,29 @@ use native.Mathlib.Nat.{sub-zero}
 use native.Mathlib.Omega.{arith}
 use Rattle.refusal.specs.Answer.{Answer, refused, done}
 use Rattle.rows.specs.Lists.{listTo, joined}
-use Rattle.rows.specs.Rows.{cut, pasted}
-use Rattle.rows.proofs.Indexed.{tab, tab-step, tab-none, listTo-tab, length-listTo}
+use Rattle.rows.specs.Rows.{pasted}
+use Rattle.rows.proofs.Indexed.{tab, tab-step, tab-none, listTo-tab}
 use Rattle.rows.proofs.RowLaws.{length-pasted}
 use Rattle.changes.specs.ChangeSet.{ChangeSet}
 use Rattle.changes.specs.Running.{State}
 use Rattle.edit.specs.Edit.{Outcome}
-use Rattle.edit.specs.Lent.{Lent, stateOf}
-use Rattle.run.specs.Run.{Edit, runOne, runAll, setsOf, calls, stateAfter, setsAfter}
+use Rattle.edit.specs.Lent.{Lent, lentCall}
+use Rattle.run.specs.Run.{Edit, runOne, runAll, setsOf, stateAfter, setsAfter}
 use Rattle.call_list.specs.declared.Reply.{Reply}
-use Rattle.call_list.specs.Reply.{replyOf, noCall, replyWords}
-use Rattle.call_list.specs.Step.{Held, heldOf, heldAfter, replyTo, heldBy, StepLeft}
-use Rattle.call_list.specs.Rows.{ifCall, editsOf}
+use Rattle.call_list.specs.Reply.{replyOf, replyWords}
+use Rattle.call_list.specs.Step.{Fitting, Held, heldOf, heldAfter, callOf, StepLeft}
+use Rattle.call_list.specs.Rows.{editsOf}
 use Rattle.call_list.specs.Ran.{replies, lastSet}
-use Rattle.call_list.proofs.Steps.{Fitting, lent-run}
+use Rattle.call_list.proofs.Steps.{lent-run, no-call-held}
 
 -- where the rows lead, and their answers
 unfoldable pub walk : List (Option Edit) → Held → Held
 walk [] h = h
-walk (none ∷ rows) h = walk rows h
-walk (some e ∷ rows) h = walk rows (heldAfter h (runOne e (h .state)))
+walk (o ∷ rows) h = walk rows (heldAfter h (callOf o (h .state)))
 
 unfoldable pub told : List (Option Edit) → Held → List ℕ
 told [] h = []
-told (none ∷ rows) h = noCall ++ told rows h
-told (some e ∷ rows) h = let a = runOne e (h .state) in replyOf a ++ told rows (heldAfter h a)
+told (o ∷ rows) h = let a = callOf o (h .state) in replyOf a ++ told rows (heldAfter h a)
 
 -- ---- the definition's run
 
@@ -48,45 +45,41 @@ after-set h (refused n ds) cs = refl
 after-set h (done o) cs = refl
 
 pub walk-state : (rows : List (Option Edit)) (h : Held) → walk rows h .state ≡ runAll (editsOf rows) (h .state)
-unfolding walk runAll editsOf joined
+unfolding walk runAll editsOf joined callOf
 walk-state [] h = refl
-walk-state (none ∷ rows) h = walk-state rows h
+walk-state (none ∷ rows) h = ap (λ (k : Held). walk rows k .state) (no-call-held h) ∙ walk-state rows h
 walk-state (some e ∷ rows) h = walk-state rows (heldAfter h (runOne e (h .state))) ∙ ap (runAll (editsOf rows)) (after-state h (runOne e (h .state)))
 
 pub walk-set : (rows : List (Option Edit)) (h : Held) → walk rows h .set ≡ lastSet (h .set) (setsOf (editsOf rows) (h .state))
-unfolding walk setsOf editsOf joined lastSet
+unfolding walk setsOf editsOf joined lastSet callOf
 walk-set [] h = refl
-walk-set (none ∷ rows) h = walk-set rows h
+walk-set (none ∷ rows) h = ap (λ (k : Held). walk rows k .set) (no-call-held h) ∙ walk-set rows h
 walk-set (some e ∷ rows) h =
     walk-set rows (heldAfter h (runOne e (h .state)))
     ∙ ap (λ (s : State). lastSet (heldAfter h (runOne e (h .state)) .set) (setsOf (editsOf rows) s)) (after-state h (runOne e (h .state)))
     ∙ after-set h (runOne e (h .state)) (setsOf (editsOf rows) (stateAfter (h .state) (runOne e (h .state))))
 
-pub told-replies : (rows : List (Option Edit)) (h : Held) → told rows h ≡ replies rows (calls (editsOf rows) (h .state))
-unfolding told replies calls editsOf joined
+pub told-replies : (rows : List (Option Edit)) (h : Held) → told rows h ≡ replies rows (h .state)
+unfolding told replies
 told-replies [] h = refl
-told-replies (none ∷ rows) h = ap (λ (l : List ℕ). noCall ++ l) (told-replies rows h)
-told-replies (some e ∷ rows) h =
-    ap (λ (l : List ℕ). replyOf (runOne e (h .state)) ++ l)
-    (told-replies rows (heldAfter h (runOne e (h .state))) ∙ ap (λ (s : State). replies rows (calls (editsOf rows) s)) (after-state h (runOne e (h .state))))
+told-replies (o ∷ rows) h =
+    let a = callOf o (h .state) in
+    ap (λ (l : List ℕ). replyOf a ++ l) (told-replies rows (heldAfter h a) ∙ ap (replies rows) (after-state h a))
 
 -- ---- one row further
 
 walk-step : (o : Option Edit) (rows : List (Option Edit)) (old : Lent) (r : Reply) (new : Lent) → Fitting old → StepLeft o old r new
     → walk (o ∷ rows) (heldOf old) ≡ walk rows (heldOf new)
-unfolding walk heldBy
-walk-step none rows old r new f s = ap (walk rows) (sym (s .held))
-walk-step (some e) rows old r new f s = ap (walk rows) (ap (heldAfter (heldOf old)) (sym (lent-run e old f)) ∙ sym (s .held))
-
-told-after : (rows : List (Option Edit)) (v w : List ℕ) (h k : Held) → v ≡ w → h ≡ k → w ++ told rows k ≡ v ++ told rows h
-told-after rows v w h k p q = ap (λ (l : List ℕ). l ++ told rows k) (sym p) ∙ ap (λ (x : Held). v ++ told rows x) (sym q)
+unfolding walk
+walk-step o rows old r new f s = ap (walk rows) (ap (heldAfter (heldOf old)) (sym (lent-run o old f)) ∙ sym (s .held))
 
 told-step : (o : Option Edit) (rows : List (Option Edit)) (old : Lent) (r : Reply) (new : Lent) → Fitting old → StepLeft o old r new
     → told (o ∷ rows) (heldOf old) ≡ replyWords r ++ told rows (heldOf new)
-unfolding told heldBy replyTo
-told-step none rows old r new f s = told-after rows (replyWords r) _ (heldOf new) _ (s .reply) (s .held)
-told-step (some e) rows old r new f s =
-    ap (λ (a : Answer Outcome). replyOf a ++ told rows (heldAfter (heldOf old) a)) (sym (lent-run e old f)) ∙ told-after rows (replyWords r) _ (heldOf new) _ (s .reply) (s .held)
+unfolding told
+told-step o rows old r new f s =
+    ap (λ (a : Answer Outcome). replyOf a ++ told rows (heldAfter (heldOf old) a)) (sym (lent-run o old f))
+    ∙ ap (λ (l : List ℕ). l ++ told rows (heldAfter (heldOf old) (lentCall (callOf o) old))) (sym (s .reply))
+    ∙ ap (λ (h : Held). replyWords r ++ told rows h) (sym (s .held))
 
 -- ---- answers as they are stored
 

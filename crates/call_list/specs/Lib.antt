@@ -2,3 +2,4 @@ pub mod Reply
 pub mod Step
 pub mod Rows
 pub mod Ran
+pub mod OneByOne

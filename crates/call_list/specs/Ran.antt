@@ -1,12 +1,12 @@
 -- A list of calls carried out on lent memory, one after another.
 use Prim.Native.Nat.{ℕ, _*_}
 use mathlib.Core.Path.{_≡_}
-use mathlib.Core.Bool.{Bool, true, false, not, _&&_}
+use mathlib.Core.Bool.{Bool, true, false}
 use mathlib.Core.Option.{Option}
 use mathlib.Core.List.{List, [], _∷_, _++_}
-use lib.Dec.{eqb, ltb}
+use lib.Dec.{ltb}
 use lib.ListN.{length, drop}
-use Rattle.refusal.specs.Answer.{Answer, refused, done, refusedAs, _>>_, refuseWhen}
+use Rattle.refusal.specs.Answer.{Answer, done, refusedAs, _>>_, refuseWhen}
 use Rattle.map.specs.Record.{Map}
 use Rattle.map.specs.MapFile.{isMap}
 use Rattle.changes.specs.ChangeSet.{ChangeSet}
@@ -46,11 +46,11 @@ roomAnswer n answers = do
   refuseWhen (ltb (length answers) (n * replyLength)) 14 []
   done n
 
--- 12 and 13 as every call tests them, then 14; else how many rows were carried out
-unfoldable pub runAnswer : List (Option Edit) → Lent → List ℕ → Answer ℕ
-runAnswer rows l answers = do
+-- of n rows: 12 and 13 as every call tests them, then 14; else how many were carried out
+unfoldable pub runAnswer : ℕ → Lent → List ℕ → Answer ℕ
+runAnswer n l answers = do
   lentChecks l
-  roomAnswer (length rows) answers
+  roomAnswer n answers
 
 -- what the rows leave: the definition's state, the change set of the last call that was accepted, and each row's answer in four words; the words after stay
 pub record RowsLeft (rows : List (Option Edit)) (old : Lent) (answers : List ℕ) (new : Lent) (answers′ : List ℕ) : Type 0 where
@@ -60,7 +60,7 @@ pub record RowsLeft (rows : List (Option Edit)) (old : Lent) (answers : List ℕ
 
 -- the whole outcome of a list of calls
 pub record RunLeft (rows : List (Option Edit)) (old : Lent) (answers : List ℕ) (r : Ran) (new : Lent) (answers′ : List ℕ) : Type 0 where
-  pub answer : ran r ≡ runAnswer rows old answers
+  pub answer : ran r ≡ runAnswer (length rows) old answers
   pub left : isRefused r ≡ false → RowsLeft rows old answers new answers′
   -- where the memory is where a run of es from the opening of m ends, the law of every run holds of es and these calls after them
   pub law : isRefused r ≡ false → (m : Map) (es : List Edit) → isMap m ≡ true → stateOf old ≡ runAll es (opening m) → RunLaw m (es ++ editsOf rows) (stateOf new)

@@ -4,7 +4,9 @@ use Prim.Native.Nat.{ℕ}
 use mathlib.Core.Path.{_≡_}
 use mathlib.Core.List.{List, [], _∷_}
 use lib.ListN.{getD}
-use Rattle.refusal.specs.Answer.{Answer, refused, done}
+use Rattle.refusal.specs.Answer.{Answer, refused, done, _>>_}
+use Rattle.placing.specs.declared.Checked.{Checked}
+use Rattle.placing.specs.Answers.{checked}
 use Rattle.edit.specs.declared.Called.{Called}
 use Rattle.edit.specs.Edit.{Outcome}
 use Rattle.edit.specs.Lent.{Lent, answered}
@@ -27,3 +29,7 @@ replyWords r = r .what ∷ r .number ∷ r .detail ∷ r .second ∷ []
 -- the words of the code's answer, whatever memory it leaves
 pub record Replied (c : Called) (r : Reply) : Type 0 where
   pub words : (l : Lent) → replyWords r ≡ replyOf (answered c l)
+
+-- what is no call, after what every call tests first
+pub record NoCallReplied (c : Checked) (r : Reply) : Type 0 where
+  pub words : replyWords r ≡ replyOf (checked c >> refused noSuchCall [])

@@ -1,19 +1,27 @@
 -- One call of a list carried out on lent memory.
-use Prim.Native.Nat.{ℕ}
 use mathlib.Core.Path.{_≡_}
 use mathlib.Core.Bool.{false}
 use mathlib.Core.Option.{Option, none, some}
-use mathlib.Core.List.{List, []}
+use mathlib.Core.List.{[]}
 use lib.Dec.{eqb}
+use lib.ListN.{length}
 use Rattle.refusal.specs.Answer.{Answer, refused, done}
+use Rattle.store.specs.Layout.{allWords, allCoords}
 use Rattle.changes.specs.ChangeSet.{ChangeSet}
-use Rattle.changes.specs.Layout.{changeSetOf}
+use Rattle.changes.specs.Layout.{setWords, changeSetOf}
 use Rattle.changes.specs.Running.{State}
 use Rattle.edit.specs.Edit.{Outcome, call}
 use Rattle.edit.specs.Lent.{Lent, stateOf, lentCall}
 use Rattle.run.specs.Run.{Edit, runOne}
 use Rattle.call_list.specs.declared.Reply.{Reply}
 use Rattle.call_list.specs.Reply.{replyOf, noSuchCall, replyWords}
+
+-- slices of the tables' lengths
+pub record Fitting (l : Lent) : Type 0 where
+  pub words : length (l .words) ≡ allWords
+  pub coords : length (l .coords) ≡ allCoords
+  pub fold : length (l .fold) ≡ setWords
+  pub set : length (l .set) ≡ setWords
 
 -- what lent memory stands for: the state, and the change set of the last accepted call
 pub record Held : Type 0 where

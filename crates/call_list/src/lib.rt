@@ -2,19 +2,31 @@
 use changes::Tally;
 use edit::Answered;
 use edit::Called;
+use placing::Checked;
 use refusal::Refusal;
-use store::layout;
 ghost use mathlib.Core.Path.{_≡_};
 ghost use Prim.Native.Nat.{_+_, _*_, _/_, _≤_};
-ghost use lib.Dec.{leb};
+ghost use mathlib.Core.Bool.{true, not, _&&_, _||_};
+ghost use mathlib.Core.Option.{none};
+ghost use lib.Dec.{eqb, leb};
 ghost use lib.ListN.{length, getD};
 ghost use Rattle.refusal.specs.Refusal.{refusalDetails};
 ghost use Rattle.rows.specs.Rows.{cut, pasted};
-ghost use Rattle.call_list.specs.Reply.{Replied, noCall, replyWords};
-ghost use Rattle.call_list.specs.Rows.{lineWithin, signalWithin, linksWithin};
-ghost use Rattle.call_list.specs.Ran.{ran, lengthsAnswer};
+ghost use Rattle.boundary.specs.Numbers.{flag};
+ghost use Rattle.call_list.specs.Reply.{Replied, NoCallReplied, replyLength, replyWords};
+ghost use Rattle.call_list.specs.Step.{StepLeft};
+ghost use Rattle.call_list.specs.Rows.{rowWords, partWithin, part, measure, measured, pointed, lineWithin, lightMeasured, signalWithin, linksWithin};
+ghost use Rattle.call_list.specs.Ran.{ran, roomAnswer, runAnswer};
 
-// An answer in four words: 0 done, 1 to 14 the refusal, 15 no call; the number answered; the details of a refusal.
+// The words of a row, and of an answer.
+pub const ROW: usize = 28;
+
+pub const ANSWER: usize = 4;
+
+// The answer to what is no call: no refusal has this number.
+const NO_SUCH_CALL: u64 = 255;
+
+// An answer in four words: 0 done, 1 to 14 the refusal, 255 no such call; the number answered; the details of a refusal.
 pub struct Reply {
     pub what: u64,
     pub number: u64,
@@ -37,17 +49,6 @@ pub enum Ran {
 pub struct RunAnswer {
     pub ran: Ran,
     pub tally: Tally,
-}
-
-pub fn no_call() -> Reply
-    ensures { λ r. ⌜ replyWords r ≡ noCall ⌝ }
-{
-    Reply {
-        what: 15,
-        number: 0,
-        detail: 0,
-        second: 0,
-    }
 }
 
 // The first detail of a refusal, 0 where it has none.
@@ -113,12 +114,28 @@ pub fn reply_of(c: Called) -> Reply
     }
 }
 
-// What is no call leaves the tally as it is.
-pub fn not_called(tally: Tally) -> Carried
-    ensures { λ r. ⌜ (replyWords (r .reply) ≡ noCall) × (r .tally ≡ tally) ⌝ }
+// The answer to what is no call, by what every call tests first.
+fn no_call_reply(c: Checked) -> Reply
+    ensures { λ r. ⌜ NoCallReplied c r ⌝ }
 {
+    match c {
+        Checked::Fine => Reply {
+            what: NO_SUCH_CALL,
+            number: 0,
+            detail: 0,
+            second: 0,
+        },
+        Checked::Refused(x) => reply_of(Called::Refused(x)),
+    }
+}
+
+// What is no call: 12 and 13 as every call tests them, then an answer of its own. Everything is left as it is.
+pub fn not_called(words: &[u64], coords: &[f64], fold: &[u64], tally: Tally, set: &[u64]) -> Carried
+    ensures { λ r. ⌜ StepLeft none (record { words = now (words .entry); coords = now (coords .entry); fold = now (fold .entry); tally = tally; set = now (set .entry) }) (r .reply) (record { words = now (words .entry); coords = now (coords .entry); fold = now (fold .entry); tally = r .tally; set = now (set .entry) }) ⌝ }
+{
+    let c = finishing::check_lent(words, coords, fold, tally, set);
     Carried {
-        reply: no_call(),
+        reply: no_call_reply(c),
         tally,
     }
 }
@@ -166,50 +183,119 @@ pub fn reals_at(pool: &[f64], at: u64, n: u64) -> &[f64]
     &pool[a..e]
 }
 
+// The same of a part that a call reads; one that it does not read is not looked at.
+fn part_within(read: bool, len: usize, at: u64, n: u64) -> bool
+    ensures { λ r. ⌜ r ≡ (not read || leb (at + n) len) ⌝ }
+{
+    if read {
+        return within(len, at, n);
+    }
+    true
+}
+
+// The n measures of a pool from index at, where they are read; else none.
+pub fn part_at(pool: &[f64], read: bool, at: u64, n: u64) -> &[f64]
+    requires { ⌜ partWithin read (now pool) at n ≡ true ⌝ }
+    ensures { λ r. ⌜ now r ≡ part read (now (pool .entry)) at n ⌝ }
+{
+    if read {
+        return reals_at(pool, at, n);
+    }
+    &pool[..0]
+}
+
+// The measure of a pool at index at, where it is read; else 0.
+pub fn measure_at(pool: &[f64], read: bool, at: u64) -> f64
+    requires { ⌜ partWithin read (now pool) at 1 ≡ true ⌝ }
+    ensures { λ r. ⌜ r ≡ measure read (now (pool .entry)) at ⌝ }
+{
+    if read {
+        let i = at as usize;
+        return pool[i];
+    }
+    0.0
+}
+
 // Row i of a list of calls.
 pub fn row_at(calls: &[u64], i: usize) -> &[u64]
-    requires { ⌜ i * 26 + 26 ≤ length (now calls) ⌝ }
-    ensures { λ r. ⌜ now r ≡ cut (now (calls .entry)) (i * 26) 26 ⌝ }
+    requires { ⌜ i * rowWords + rowWords ≤ length (now calls) ⌝ }
+    ensures { λ r. ⌜ now r ≡ cut (now (calls .entry)) (i * rowWords) rowWords ⌝ }
 {
-    let a = i * 26;
-    let e = a + 26;
+    let a = i * ROW;
+    let e = a + ROW;
     &calls[a..e]
 }
 
-// Whether the lists of a stop line's row lie within their pools.
+// Whether the offset or station of a light's line is read, by the choice and the placement of the line.
+pub fn light_measured(choice: u64, placement: u64) -> bool
+    ensures { λ r. ⌜ r ≡ (eqb choice 2 && measured placement) ⌝ }
+{
+    if choice != 2 {
+        return false;
+    }
+    placement < 2
+}
+
+// Whether the given coordinates of a light's line are read.
+pub fn light_pointed(choice: u64, placement: u64) -> bool
+    ensures { λ r. ⌜ r ≡ (eqb choice 2 && pointed placement) ⌝ }
+{
+    if choice != 2 {
+        return false;
+    }
+    placement == 2
+}
+
+// Whether the parts of its pools that a stop line's row reads lie within them.
 pub fn line_within(row: &[u64], lists: &[u64], reals: &[f64]) -> bool
-    requires { ⌜ length (now row) ≡ 26 ⌝ }
+    requires { ⌜ length (now row) ≡ rowWords ⌝ }
     ensures { λ r. ⌜ r ≡ lineWithin (now (row .entry)) (now (lists .entry)) (now (reals .entry)) ⌝ }
 {
     if !within(lists.len(), row[1], row[2]) {
         return false;
     }
-    if !within(reals.len(), row[5], 1) {
+    if !part_within(row[3] < 2, reals.len(), row[5], 1) {
         return false;
     }
-    within(reals.len(), row[6], row[7])
+    part_within(row[3] == 2, reals.len(), row[6], row[7])
 }
 
-// The same of a light's row.
-pub fn signal_within(row: &[u64], lists: &[u64], reals: &[f64]) -> bool
-    requires { ⌜ length (now row) ≡ 26 ⌝ }
-    ensures { λ r. ⌜ r ≡ signalWithin (now (row .entry)) (now (lists .entry)) (now (reals .entry)) ⌝ }
+// The same of the lanes and the two measures of a light's row.
+fn light_within(row: &[u64], lists: &[u64], reals: &[f64]) -> bool
+    requires { ⌜ length (now row) ≡ rowWords ⌝ }
+    ensures { λ r. ⌜ r ≡ (leb (getD (now (row .entry)) 1 0 + getD (now (row .entry)) 2 0) (length (now (lists .entry))) && partWithin (lightMeasured (now (row .entry))) (now (reals .entry)) (getD (now (row .entry)) 20 0) 1 && partWithin (flag (getD (now (row .entry)) 7 0)) (now (reals .entry)) (getD (now (row .entry)) 21 0) 1) ⌝ }
 {
     if !within(lists.len(), row[1], row[2]) {
         return false;
     }
-    if !within(reals.len(), row[21], 14) {
+    let m = light_measured(row[3], row[5]);
+    if !part_within(m, reals.len(), row[20], 1) {
         return false;
     }
-    if !within(reals.len(), row[22], row[23]) {
+    part_within(row[7] != 0, reals.len(), row[21], 1)
+}
+
+// The same of a light's row.
+pub fn signal_within(row: &[u64], lists: &[u64], reals: &[f64]) -> bool
+    requires { ⌜ length (now row) ≡ rowWords ⌝ }
+    ensures { λ r. ⌜ r ≡ signalWithin (now (row .entry)) (now (lists .entry)) (now (reals .entry)) ⌝ }
+{
+    if !light_within(row, lists, reals) {
         return false;
     }
-    within(reals.len(), row[24], row[25])
+    let p = light_pointed(row[3], row[5]);
+    if !part_within(p, reals.len(), row[22], row[23]) {
+        return false;
+    }
+    if !part_within(row[6] != 0, reals.len(), row[24], row[25]) {
+        return false;
+    }
+    part_within(row[9] != 0, reals.len(), row[26], row[27])
 }
 
 // The same of a row of links.
 pub fn links_within(row: &[u64], lists: &[u64]) -> bool
-    requires { ⌜ length (now row) ≡ 26 ⌝ }
+    requires { ⌜ length (now row) ≡ rowWords ⌝ }
     ensures { λ r. ⌜ r ≡ linksWithin (now (row .entry)) (now (lists .entry)) ⌝ }
 {
     if !within(lists.len(), row[1], row[2]) {
@@ -223,39 +309,38 @@ pub fn links_within(row: &[u64], lists: &[u64]) -> bool
 
 // The four words of an answer, from index at.
 pub fn put_reply(answers: &mut [u64], at: usize, r: Reply)
-    requires { ⌜ at + 4 ≤ length (now answers) ⌝ }
-    ensures { λ _. ⌜ now (answers .exit) ≡ pasted (now (answers .entry)) at (replyWords r) 4 ⌝ }
+    requires { ⌜ at + replyLength ≤ length (now answers) ⌝ }
+    ensures { λ _. ⌜ now (answers .exit) ≡ pasted (now (answers .entry)) at (replyWords r) replyLength ⌝ }
 {
     let row = [r.what, r.number, r.detail, r.second];
     rows::put(answers, at, &row);
 }
 
-// Whether the slices have their lengths, and how many rows there are.
+// Whether there is room for the answers of n rows: 14 otherwise.
+pub fn check_room(n: usize, answers: &[u64]) -> Ran
+    ensures { λ r. ⌜ ran r ≡ roomAnswer n (now (answers .entry)) ⌝ }
+{
+    if answers.len() / ANSWER < n {
+        return Ran::Refused(Refusal::ShortBuffer);
+    }
+    Ran::Done(n)
+}
+
+// What a list of calls tests: 12 and 13 as a call does, then 14; and how many rows there are.
 pub fn check_run(
     words: &[u64],
     coords: &[f64],
     fold: &[u64],
+    tally: Tally,
     set: &[u64],
     calls: &[u64],
     answers: &[u64],
 ) -> Ran
-    ensures { λ r. ⌜ ran r ≡ lengthsAnswer (length (now (words .entry))) (length (now (coords .entry))) (length (now (fold .entry))) (length (now (set .entry))) (length (now (answers .entry))) (length (now (calls .entry)) / 26) ⌝ }
+    ensures { λ r. ⌜ ran r ≡ runAnswer (length (now (calls .entry)) / rowWords) (record { words = now (words .entry); coords = now (coords .entry); fold = now (fold .entry); tally = tally; set = now (set .entry) }) (now (answers .entry)) ⌝ }
 {
-    if words.len() != layout::WORDS {
-        return Ran::Refused(Refusal::BadMap);
+    let c = finishing::check_lent(words, coords, fold, tally, set);
+    match c {
+        Checked::Refused(x) => Ran::Refused(x),
+        Checked::Fine => check_room(calls.len() / ROW, answers),
     }
-    if coords.len() != layout::COORDS {
-        return Ran::Refused(Refusal::BadMap);
-    }
-    if fold.len() != changes::layout::WORDS {
-        return Ran::Refused(Refusal::BadSet);
-    }
-    if set.len() != changes::layout::WORDS {
-        return Ran::Refused(Refusal::BadSet);
-    }
-    let n = calls.len() / 26;
-    if answers.len() < n * 4 {
-        return Ran::Refused(Refusal::ShortBuffer);
-    }
-    Ran::Done(n)
 }

@@ -1,5 +1,5 @@
 // The edits for programs in other languages: numbers and slices. The tally is three words, an answer four: 0 done, 1 to 14 the refusal,
-// 15 no call; the number answered; the two details of a refusal. The first word is the result too.
+// 255 no such call; the number answered; the two details of a refusal. The first word is the result too.
 use call_list::Carried;
 ghost use mathlib.Core.Path.{_≡_};
 ghost use mathlib.Core.Option.{some};
@@ -52,7 +52,8 @@ pub extern "C" fn lane_map_add_stop_line(
     answer_with(c, tally, answer)
 }
 
-// A traffic light: its eighteen numbers and fourteen measures, the coordinates of a given line and of the housing.
+// A traffic light: its seventeen numbers, the offset or station of a new line and the height, the coordinates of a given line, of the
+// housing and of the lamps.
 #[no_mangle]
 pub extern "C" fn lane_map_add_traffic_signal(
     words: &mut [u64],
@@ -61,13 +62,15 @@ pub extern "C" fn lane_map_add_traffic_signal(
     tally: &mut [u64; 3],
     set: &mut [u64],
     lanes: &[u64],
-    numbers: &[u64; 18],
-    measures: &[f64; 14],
+    numbers: &[u64; 17],
+    measure: f64,
+    height: f64,
     points: &[f64],
     housing: &[f64],
+    lamps: &[f64],
     answer: &mut [u64; 4],
 ) -> u64
-    ensures { λ r. ⌜ StepWritten (lightBy (now (lanes .entry)) (now (numbers .entry)) (now (measures .entry)) (now (points .entry)) (now (housing .entry))) (record { words = now (words .entry); coords = now (coords .entry); fold = now (fold .entry); tally = tallyIn (now (tally .entry)); set = now (set .entry) }) r (now (answer .exit)) (record { words = now (words .exit); coords = now (coords .exit); fold = now (fold .exit); tally = tallyIn (now (tally .exit)); set = now (set .exit) }) ⌝ }
+    ensures { λ r. ⌜ StepWritten (lightBy (now (lanes .entry)) (now (numbers .entry)) measure height (now (points .entry)) (now (housing .entry)) (now (lamps .entry))) (record { words = now (words .entry); coords = now (coords .entry); fold = now (fold .entry); tally = tallyIn (now (tally .entry)); set = now (set .entry) }) r (now (answer .exit)) (record { words = now (words .exit); coords = now (coords .exit); fold = now (fold .exit); tally = tallyIn (now (tally .exit)); set = now (set .exit) }) ⌝ }
 {
     let t = tally_words::tally_of(tally);
     let c = numbered::signal_by(
@@ -78,9 +81,11 @@ pub extern "C" fn lane_map_add_traffic_signal(
         set,
         lanes,
         numbers,
-        measures,
+        measure,
+        height,
         points,
         housing,
+        lamps,
     );
     answer_with(c, tally, answer)
 }

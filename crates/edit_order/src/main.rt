@@ -3,12 +3,14 @@
 //
 // Beside the oracle's requests the cases have some that spoil what is lent: `word` and `coord` (of the map's tables), `entry` (of the
 // running fold), each with an index and what stands there then; `tallied` with three counts; `folded` with a set file that
-// becomes the fold; `short` with a sum of 1, 2, 4 and 8 for words, coords, fold and set lent one too short. And files: `read` (a map
-// file), `set` (a set file), `write` and `give` (the map's file and the fold's, into that many bytes).
+// becomes the fold; `short` with a sum of 1, 2, 4 and 8 for words, coords, fold and set lent one too short. `row` puts a number into a
+// word of the request's row; `list` makes the request a list of calls, with how many words of the row and how many words for answers
+// are lent. And files: `read` (a map file), `set` (a set file), `write` and `give` (the map's file and the fold's, into that many bytes).
 ghost use Prim.Native.Nat.{_≤_};
-ghost use lib.ListN.{length};
 use call_list::Carried;
+use call_list::Ran;
 use call_list::Reply;
+use call_list::RunAnswer;
 use changes::Tally;
 use files::ChangesRead;
 use files::MapRead;
@@ -21,12 +23,23 @@ use sample_text::line_end;
 use sample_text::name_at;
 use sample_text::number_at;
 
-// The marks: what is lent too short, cases that were met and missed.
-const SHORT: usize = 0;
+// The marks: cases that were met and missed; of the present case, what is lent too short, a word of the row and its value, and of a
+// list of calls (1, else 0) the words of its row and those for answers.
+const MET: usize = 0;
 
-const MET: usize = 1;
+const MISSED: usize = 1;
 
-const MISSED: usize = 2;
+const SHORT: usize = 2;
+
+const WORD: usize = 3;
+
+const VALUE: usize = 4;
+
+const LISTED: usize = 5;
+
+const ROW: usize = 6;
+
+const ROOM: usize = 7;
 
 fn get(t: &[u64], i: usize) -> u64 {
     if i < t.len() { t[i] } else { 0 }
@@ -100,7 +113,123 @@ fn shorter(n: usize, less: u64) -> usize
     n - 1
 }
 
-// An edit, on memory of which some is lent too short.
+// No more than there are.
+fn at_most(most: usize, asked: u64) -> usize
+    ensures { λ r. ⌜ r ≤ most ⌝ }
+{
+    let n = rows::index(asked);
+    if n < most { n } else { most }
+}
+
+// A list's answer: why nothing was carried out, or the answer of its one row; 0 without rows.
+fn ran(a: RunAnswer, answers: &[u64]) -> Carried {
+    let tally = a.tally;
+    let r = a.ran;
+    match r {
+        Ran::Refused(why) => Carried {
+            reply: request_calls::reply(refusal::number(why)),
+            tally,
+        },
+        Ran::Done(n) => {
+            if n == 0 {
+                return Carried {
+                    reply: request_calls::reply(0),
+                    tally,
+                };
+            }
+            Carried {
+                reply: Reply {
+                    what: get(answers, 0),
+                    number: get(answers, 1),
+                    detail: get(answers, 2),
+                    second: get(answers, 3),
+                },
+                tally,
+            }
+        }
+    }
+}
+
+// As many words of a row as are asked for, with as many for answers.
+fn run_row(
+    words: &mut [u64],
+    coords: &mut [f64],
+    fold: &mut [u64],
+    tally: Tally,
+    set: &mut [u64],
+    row: &[u64],
+    lists: &[u64],
+    reals: &[f64],
+    answers: &mut [u64],
+    marks: &[u64],
+) -> Carried {
+    let n = at_most(row.len(), get(marks, ROW));
+    let k = at_most(answers.len(), get(marks, ROOM));
+    let a = runs::run_calls(
+        words,
+        coords,
+        fold,
+        tally,
+        set,
+        &row[..n],
+        lists,
+        reals,
+        &mut answers[..k],
+    );
+    ran(a, answers)
+}
+
+// A list of one row, or of less.
+fn listed(
+    text: &[u8],
+    at: usize,
+    words: &mut [u64],
+    coords: &mut [f64],
+    fold: &mut [u64],
+    tally: Tally,
+    set: &mut [u64],
+    marks: &[u64],
+) -> Carried {
+    let mut row = [0u64; requests::ROW];
+    let mut lists = [0u64; requests::LISTS];
+    let mut reals = [0.0; requests::REALS];
+    let mut answers = [0u64; 4];
+    requests::request_into(text, at, &mut row, &mut lists, &mut reals);
+    put(&mut row, rows::index(get(marks, WORD)), get(marks, VALUE));
+    run_row(
+        words,
+        coords,
+        fold,
+        tally,
+        set,
+        &row,
+        &lists,
+        &reals,
+        &mut answers,
+        marks,
+    )
+}
+
+// An edit: a call of its own, or a list of calls.
+fn called(
+    text: &[u8],
+    at: usize,
+    words: &mut [u64],
+    coords: &mut [f64],
+    fold: &mut [u64],
+    tally: Tally,
+    set: &mut [u64],
+    marks: &[u64],
+) -> Carried {
+    if get(marks, LISTED) != 0 {
+        return listed(text, at, words, coords, fold, tally, set, marks);
+    }
+    let word = rows::index(get(marks, WORD));
+    let value = get(marks, VALUE);
+    request_calls::carry_but(text, at, words, coords, fold, tally, set, word, value)
+}
+
+// The same on memory of which some is lent too short.
 fn edit(
     text: &[u8],
     at: usize,
@@ -109,13 +238,14 @@ fn edit(
     fold: &mut [u64],
     tally: Tally,
     set: &mut [u64],
-    short: u64,
+    marks: &[u64],
 ) -> Carried {
+    let short = get(marks, SHORT);
     let a = shorter(words.len(), short % 2);
     let b = shorter(coords.len(), short / 2 % 2);
     let c = shorter(fold.len(), short / 4 % 2);
     let d = shorter(set.len(), short / 8 % 2);
-    request_calls::carry(
+    called(
         text,
         at,
         &mut words[..a],
@@ -123,6 +253,7 @@ fn edit(
         &mut fold[..c],
         tally,
         &mut set[..d],
+        marks,
     )
 }
 
@@ -156,14 +287,6 @@ fn written(w: Written) -> Reply {
     }
 }
 
-// As many bytes of the buffer as are asked for.
-fn room(asked: u64, buffer: &[u8]) -> usize
-    ensures { λ r. ⌜ r ≤ length (now (buffer .entry)) ⌝ }
-{
-    let n = rows::index(asked);
-    if n < buffer.len() { n } else { buffer.len() }
-}
-
 // A refused writing must leave the buffer alone; 16 stands for memory that was altered.
 fn kept(before: u64, buffer: &[u8], r: Reply) -> Reply {
     if r.what == 0 {
@@ -178,7 +301,7 @@ fn kept(before: u64, buffer: &[u8], r: Reply) -> Reply {
 fn write(text: &[u8], at: usize, words: &[u64], coords: &[f64], buffer: &mut [u8]) -> Reply {
     let asked = number_at(text, at);
     let before = bytes::hash(buffer);
-    let n = room(asked.value, buffer);
+    let n = at_most(buffer.len(), asked.value);
     let w = files::write_map(words, coords, &mut buffer[..n]);
     kept(before, buffer, written(w))
 }
@@ -186,7 +309,7 @@ fn write(text: &[u8], at: usize, words: &[u64], coords: &[f64], buffer: &mut [u8
 fn give(text: &[u8], at: usize, fold: &[u64], buffer: &mut [u8]) -> Reply {
     let asked = number_at(text, at);
     let before = bytes::hash(buffer);
-    let n = room(asked.value, buffer);
+    let n = at_most(buffer.len(), asked.value);
     let w = files::write_changes(fold, &mut buffer[..n]);
     kept(before, buffer, written(w))
 }
@@ -200,13 +323,13 @@ fn asked(
     tally: Tally,
     set: &mut [u64],
     buffer: &mut [u8],
-    short: u64,
+    marks: &[u64],
 ) -> Carried {
     let w = name_at(text, at);
     let name = w.value;
     match name {
         0x6C696E65 | 0x6C69676874 | 0x6C696E6B73 => {
-            edit(text, at, words, coords, fold, tally, set, short)
+            edit(text, at, words, coords, fold, tally, set, marks)
         }
         0x72656164 => Carried {
             reply: read(text, w.next, buffer, words, coords),
@@ -237,10 +360,10 @@ fn asked_kept(
     tally: Tally,
     set: &mut [u64],
     buffer: &mut [u8],
-    short: u64,
+    marks: &[u64],
 ) -> Carried {
     let before = request_calls::checksum(words, coords, fold, set);
-    let c = asked(text, at, words, coords, fold, tally, set, buffer, short);
+    let c = asked(text, at, words, coords, fold, tally, set, buffer, marks);
     let r = c.reply;
     if r.what != 0 {
         if request_calls::checksum(words, coords, fold, set) != before {
@@ -314,6 +437,21 @@ fn judge(text: &[u8], answer: usize, r: Reply, marks: &mut [u64]) {
 
 // ---- lines
 
+// A new case: all of what is lent, no other word in the row, no list.
+fn begin(marks: &mut [u64]) {
+    put(marks, SHORT, 0);
+    put(marks, WORD, requests::ROW as u64);
+    put(marks, LISTED, 0);
+}
+
+// Two numbers into the marks.
+fn mark_two(text: &[u8], at: usize, marks: &mut [u64], i: usize, j: usize) {
+    let a = number_at(text, at);
+    let b = number_at(text, a.next);
+    put(marks, i, a.value);
+    put(marks, j, b.value);
+}
+
 // A line that spoils what is lent, or tells a case's name.
 fn prepare(
     text: &[u8],
@@ -330,7 +468,7 @@ fn prepare(
     match name {
         0x63617365 => {
             say_rest(text, w.next);
-            put(marks, SHORT, 0);
+            begin(marks);
         }
         0x776F7264 => spoil_word(text, w.next, words),
         0x636F6F7264 => spoil_coord(text, w.next, coords),
@@ -338,6 +476,11 @@ fn prepare(
         0x73686F7274 => {
             let n = number_at(text, w.next);
             put(marks, SHORT, n.value);
+        }
+        0x726F77 => mark_two(text, w.next, marks, WORD, VALUE),
+        0x6C697374 => {
+            mark_two(text, w.next, marks, ROW, ROOM);
+            put(marks, LISTED, 1);
         }
         0x74616C6C696564 => return tally_at(text, w.next),
         0x666F6C646564 => return folded(text, w.next, buffer, fold),
@@ -371,8 +514,7 @@ fn line(
     if !has_answer(text, next) {
         return prepare(text, at, words, coords, fold, tally, buffer, marks);
     }
-    let short = get(marks, SHORT);
-    let c = asked_kept(text, at, words, coords, fold, tally, set, buffer, short);
+    let c = asked_kept(text, at, words, coords, fold, tally, set, buffer, marks);
     let answer = name_at(text, next);
     let r = c.reply;
     judge(text, answer.next, r, marks);
@@ -418,7 +560,7 @@ fn play(text: &[u8]) {
     let mut fold = [0u64; 3556];
     let mut set = [0u64; 3556];
     let mut buffer = [0u8; 65536];
-    let mut marks = [0u64; 3];
+    let mut marks = [0u64; 8];
     cases(
         text,
         &mut words,

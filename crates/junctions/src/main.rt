@@ -24,9 +24,9 @@ fn say_rest(text: &[u8], at: usize) {
 
 // The request in words.
 fn say_request(text: &[u8], at: usize) {
-    let mut row = [0u64; 26];
-    let mut lists = [0u64; 96];
-    let mut reals = [0.0; 436];
+    let mut row = [0u64; requests::ROW];
+    let mut lists = [0u64; requests::LISTS];
+    let mut reals = [0.0; requests::REALS];
     requests::request_into(text, at, &mut row, &mut lists, &mut reals);
     printing::requests::request(&row, &lists, &reals);
 }

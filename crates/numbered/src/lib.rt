@@ -23,10 +23,10 @@ pub fn stop_line_by(
     ensures { λ r. ⌜ StepLeft (lineBy (now (lanes .entry)) placement measure (now (given .entry)) rule) (record { words = now (words .entry); coords = now (coords .entry); fold = now (fold .entry); tally = tally; set = now (set .entry) }) (r .reply) (record { words = now (words .exit); coords = now (coords .exit); fold = now (fold .exit); tally = r .tally; set = now (set .exit) }) ⌝ }
 {
     if 2 < placement {
-        return call_list::not_called(tally);
+        return call_list::not_called(words, coords, fold, tally, set);
     }
     if 2 < rule {
-        return call_list::not_called(tally);
+        return call_list::not_called(words, coords, fold, tally, set);
     }
     let how = boundary::placement_of(placement, measure);
     let made = boundary::stop_rule_of(rule);
@@ -34,7 +34,8 @@ pub fn stop_line_by(
     call_list::in_words(a)
 }
 
-// `add_traffic_signal`: the eighteen numbers and fourteen measures of its request, the coordinates of a given line and of the housing.
+// `add_traffic_signal`: the seventeen numbers of its request, the offset or station of a new line and the height, and the coordinates of
+// a given line, of the housing and of the lamps.
 pub fn signal_by(
     words: &mut [u64],
     coords: &mut [f64],
@@ -43,18 +44,32 @@ pub fn signal_by(
     set: &mut [u64],
     lanes: &[u64],
     numbers: &[u64],
-    measures: &[f64],
+    measure: f64,
+    height: f64,
     points: &[f64],
     housing: &[f64],
+    lamps: &[f64],
 ) -> Carried
-    requires { ⌜ (length (now numbers) ≡ 18) × (length (now measures) ≡ 14) ⌝ }
-    ensures { λ r. ⌜ StepLeft (lightBy (now (lanes .entry)) (now (numbers .entry)) (now (measures .entry)) (now (points .entry)) (now (housing .entry))) (record { words = now (words .entry); coords = now (coords .entry); fold = now (fold .entry); tally = tally; set = now (set .entry) }) (r .reply) (record { words = now (words .exit); coords = now (coords .exit); fold = now (fold .exit); tally = r .tally; set = now (set .exit) }) ⌝ }
+    requires { ⌜ length (now numbers) ≡ 17 ⌝ }
+    ensures { λ r. ⌜ StepLeft (lightBy (now (lanes .entry)) (now (numbers .entry)) measure height (now (points .entry)) (now (housing .entry)) (now (lamps .entry))) (record { words = now (words .entry); coords = now (coords .entry); fold = now (fold .entry); tally = tally; set = now (set .entry) }) (r .reply) (record { words = now (words .exit); coords = now (coords .exit); fold = now (fold .exit); tally = r .tally; set = now (set .exit) }) ⌝ }
 {
-    if !boundary::signal_cases(numbers) {
-        return call_list::not_called(tally);
+    let n = signal_row::lamp_count(lamps);
+    if !boundary::signal_cases(numbers, n) {
+        return call_list::not_called(words, coords, fold, tally, set);
     }
-    let q = boundary::request_of(numbers, measures);
-    let a = signals::add_traffic_signal(words, coords, fold, tally, set, lanes, q, points, housing);
+    let q = boundary::request_of(numbers, measure, height);
+    let a = signals::add_traffic_signal(
+        words,
+        coords,
+        fold,
+        tally,
+        set,
+        lanes,
+        q,
+        points,
+        housing,
+        lamps,
+    );
     call_list::in_words(a)
 }
 

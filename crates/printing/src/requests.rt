@@ -85,7 +85,7 @@ fn equipment(row: &[u64], reals: &[f64]) {
         decimal::decimal(get_real(reals, 1));
     }
     if get(row, 9) != 0 {
-        word(b", lamps given: ", get(row, 10));
+        word(b", lamps given: ", get(row, 27) / 3);
     }
 }
 
@@ -94,8 +94,8 @@ fn light(row: &[u64], lists: &[u64], reals: &[f64]) {
     line_choice(row, reals);
     signal_kind(get(row, 8));
     equipment(row, reals);
-    if get(row, 19) != 0 {
-        word(b", joins rule ", get(row, 20));
+    if get(row, 18) != 0 {
+        word(b", joins rule ", get(row, 19));
     }
 }
 

@@ -9,19 +9,23 @@ use sample_text::expect_number;
 use sample_text::name_at;
 use sample_text::number_at;
 
+fn put(t: &mut [u64; requests::ROW], i: usize, v: u64) {
+    if i < requests::ROW {
+        t[i] = v;
+    }
+}
+
+// A row carried out: its length is part of its type.
 fn carry_row(
     words: &mut [u64],
     coords: &mut [f64],
     fold: &mut [u64],
     tally: Tally,
     set: &mut [u64],
-    row: &[u64],
+    row: &[u64; requests::ROW],
     lists: &[u64],
     reals: &[f64],
 ) -> Carried {
-    if row.len() != 26 {
-        return call_list::not_called(tally);
-    }
     row_calls::carry_out(words, coords, fold, tally, set, row, lists, reals)
 }
 
@@ -35,10 +39,26 @@ pub fn carry(
     tally: Tally,
     set: &mut [u64],
 ) -> Carried {
-    let mut row = [0u64; 26];
-    let mut lists = [0u64; 96];
-    let mut reals = [0.0; 436];
+    carry_but(text, at, words, coords, fold, tally, set, requests::ROW, 0)
+}
+
+// The same with another value in a word of its row; past the row there is no such word.
+pub fn carry_but(
+    text: &[u8],
+    at: usize,
+    words: &mut [u64],
+    coords: &mut [f64],
+    fold: &mut [u64],
+    tally: Tally,
+    set: &mut [u64],
+    word: usize,
+    value: u64,
+) -> Carried {
+    let mut row = [0u64; requests::ROW];
+    let mut lists = [0u64; requests::LISTS];
+    let mut reals = [0.0; requests::REALS];
     requests::request_into(text, at, &mut row, &mut lists, &mut reals);
+    put(&mut row, word, value);
     carry_row(words, coords, fold, tally, set, &row, &lists, &reals)
 }
 

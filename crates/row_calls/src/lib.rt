@@ -4,7 +4,8 @@ use changes::Tally;
 ghost use mathlib.Core.Path.{_≡_};
 ghost use lib.ListN.{length};
 ghost use Rattle.call_list.specs.Step.{StepLeft};
-ghost use Rattle.call_list.specs.Rows.{lineRow, signalRow, linksRow, callAt};
+ghost use Rattle.row_calls.specs.Light.{LightParts, linePart, housingPart, lampsPart};
+ghost use Rattle.call_list.specs.Rows.{rowWords, lightBy, lineRow, signalRow, linksRow, callAt};
 
 fn line_row(
     words: &mut [u64],
@@ -16,15 +17,15 @@ fn line_row(
     lists: &[u64],
     reals: &[f64],
 ) -> Carried
-    requires { ⌜ length (now row) ≡ 26 ⌝ }
+    requires { ⌜ length (now row) ≡ rowWords ⌝ }
     ensures { λ r. ⌜ StepLeft (lineRow (now (row .entry)) (now (lists .entry)) (now (reals .entry))) (record { words = now (words .entry); coords = now (coords .entry); fold = now (fold .entry); tally = tally; set = now (set .entry) }) (r .reply) (record { words = now (words .exit); coords = now (coords .exit); fold = now (fold .exit); tally = r .tally; set = now (set .exit) }) ⌝ }
 {
     if !call_list::line_within(row, lists, reals) {
-        return call_list::not_called(tally);
+        return call_list::not_called(words, coords, fold, tally, set);
     }
     let lanes = call_list::list_at(lists, row[1], row[2]);
-    let m = row[5] as usize;
-    let given = call_list::reals_at(reals, row[6], row[7]);
+    let measure = call_list::measure_at(reals, row[3] < 2, row[5]);
+    let given = call_list::part_at(reals, row[3] == 2, row[6], row[7]);
     numbered::stop_line_by(
         words,
         coords,
@@ -33,9 +34,46 @@ fn line_row(
         set,
         lanes,
         row[3],
-        reals[m],
+        measure,
         given,
         row[4],
+    )
+}
+
+// A light whose lanes, numbers and measures are read: its given line, its housing and its lamps, and the call.
+fn light_row(
+    words: &mut [u64],
+    coords: &mut [f64],
+    fold: &mut [u64],
+    tally: Tally,
+    set: &mut [u64],
+    lanes: &[u64],
+    numbers: &[u64],
+    measure: f64,
+    height: f64,
+    row: &[u64],
+    reals: &[f64],
+) -> Carried
+    requires { ⌜ LightParts (now row) (now reals) × (length (now numbers) ≡ 17) ⌝ }
+    ensures { λ r. ⌜ StepLeft (lightBy (now (lanes .entry)) (now (numbers .entry)) measure height (linePart (now (row .entry)) (now (reals .entry))) (housingPart (now (row .entry)) (now (reals .entry))) (lampsPart (now (row .entry)) (now (reals .entry)))) (record { words = now (words .entry); coords = now (coords .entry); fold = now (fold .entry); tally = tally; set = now (set .entry) }) (r .reply) (record { words = now (words .exit); coords = now (coords .exit); fold = now (fold .exit); tally = r .tally; set = now (set .exit) }) ⌝ }
+{
+    let pointed = call_list::light_pointed(row[3], row[5]);
+    let points = call_list::part_at(reals, pointed, row[22], row[23]);
+    let housing = call_list::part_at(reals, row[6] != 0, row[24], row[25]);
+    let lamps = call_list::part_at(reals, row[9] != 0, row[26], row[27]);
+    numbered::signal_by(
+        words,
+        coords,
+        fold,
+        tally,
+        set,
+        lanes,
+        numbers,
+        measure,
+        height,
+        points,
+        housing,
+        lamps,
     )
 }
 
@@ -49,18 +87,18 @@ fn signal_row(
     lists: &[u64],
     reals: &[f64],
 ) -> Carried
-    requires { ⌜ length (now row) ≡ 26 ⌝ }
+    requires { ⌜ length (now row) ≡ rowWords ⌝ }
     ensures { λ r. ⌜ StepLeft (signalRow (now (row .entry)) (now (lists .entry)) (now (reals .entry))) (record { words = now (words .entry); coords = now (coords .entry); fold = now (fold .entry); tally = tally; set = now (set .entry) }) (r .reply) (record { words = now (words .exit); coords = now (coords .exit); fold = now (fold .exit); tally = r .tally; set = now (set .exit) }) ⌝ }
 {
     if !call_list::signal_within(row, lists, reals) {
-        return call_list::not_called(tally);
+        return call_list::not_called(words, coords, fold, tally, set);
     }
     let lanes = call_list::list_at(lists, row[1], row[2]);
-    let numbers = call_list::list_at(row, 3, 18);
-    let measures = call_list::reals_at(reals, row[21], 14);
-    let points = call_list::reals_at(reals, row[22], row[23]);
-    let housing = call_list::reals_at(reals, row[24], row[25]);
-    numbered::signal_by(
+    let numbers = call_list::list_at(row, 3, 17);
+    let measured = call_list::light_measured(row[3], row[5]);
+    let measure = call_list::measure_at(reals, measured, row[20]);
+    let height = call_list::measure_at(reals, row[7] != 0, row[21]);
+    light_row(
         words,
         coords,
         fold,
@@ -68,9 +106,10 @@ fn signal_row(
         set,
         lanes,
         numbers,
-        measures,
-        points,
-        housing,
+        measure,
+        height,
+        row,
+        reals,
     )
 }
 
@@ -83,11 +122,11 @@ fn links_row(
     row: &[u64],
     lists: &[u64],
 ) -> Carried
-    requires { ⌜ length (now row) ≡ 26 ⌝ }
+    requires { ⌜ length (now row) ≡ rowWords ⌝ }
     ensures { λ r. ⌜ StepLeft (linksRow (now (row .entry)) (now (lists .entry))) (record { words = now (words .entry); coords = now (coords .entry); fold = now (fold .entry); tally = tally; set = now (set .entry) }) (r .reply) (record { words = now (words .exit); coords = now (coords .exit); fold = now (fold .exit); tally = r .tally; set = now (set .exit) }) ⌝ }
 {
     if !call_list::links_within(row, lists) {
-        return call_list::not_called(tally);
+        return call_list::not_called(words, coords, fold, tally, set);
     }
     let lanes = call_list::list_at(lists, row[1], row[2]);
     let crosswalks = call_list::list_at(lists, row[4], row[5]);
@@ -105,7 +144,7 @@ fn links_row(
     )
 }
 
-// The call that the row asks for, or nothing where it asks for none.
+// The call that the row asks for; one that asks for none is tested as a call is.
 pub fn carry_out(
     words: &mut [u64],
     coords: &mut [f64],
@@ -116,7 +155,7 @@ pub fn carry_out(
     lists: &[u64],
     reals: &[f64],
 ) -> Carried
-    requires { ⌜ length (now row) ≡ 26 ⌝ }
+    requires { ⌜ length (now row) ≡ rowWords ⌝ }
     ensures { λ r. ⌜ StepLeft (callAt (now (row .entry)) (now (lists .entry)) (now (reals .entry))) (record { words = now (words .entry); coords = now (coords .entry); fold = now (fold .entry); tally = tally; set = now (set .entry) }) (r .reply) (record { words = now (words .exit); coords = now (coords .exit); fold = now (fold .exit); tally = r .tally; set = now (set .exit) }) ⌝ }
 {
     let what = row[0];
@@ -129,5 +168,5 @@ pub fn carry_out(
     if what == 3 {
         return links_row(words, coords, fold, tally, set, row, lists);
     }
-    call_list::not_called(tally)
+    call_list::not_called(words, coords, fold, tally, set)
 }

@@ -117,7 +117,7 @@ unfolding calls every
 lights-run [] s = refl
 lights-run (e ∷ es) s = and-i (clearsLine (record { edit = e; before = s; answer = runOne e s })) _ (call-clears e s (runOne e s) refl) (lights-run es (stateAfter s (runOne e s)))
 
-run-append : (xs ys : List Edit) (s : State) → runAll (xs ++ ys) s ≡ runAll ys (runAll xs s)
+pub run-append : (xs ys : List Edit) (s : State) → runAll (xs ++ ys) s ≡ runAll ys (runAll xs s)
 unfolding runAll
 run-append [] ys s = refl
 run-append (e ∷ xs) ys s = run-append xs ys (stateAfter s (runOne e s))

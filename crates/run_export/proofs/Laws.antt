@@ -53,7 +53,7 @@ module _ (rows : List (Option Edit)) (old : Lent) (answers : List ℕ) (a : Ran)
   run-done n e = rw p (go a e h)
     where
       go : (a : Ran) → a ≡ R.Done n → RunLeft rows old answers a (lent ws cs f k s) answers′ → RunWritten rows old answers 0 (lent ws cs f k s) answers′
-      go (R.Done m) e h = record { result = ap codeOf (h .answer); state = λ q. h .state refl; set = λ q. h .set refl; replied = λ q. h .replied refl; kept = λ q. absurd (q refl) }
+      go (R.Done m) e h = record { result = ap codeOf (h .answer); left = λ q. h .left refl; law = λ q. h .law refl; kept = λ q. absurd (q refl) }
       go (R.Refused x) e h = absurd (let z : _≡_ {A = ℕ} 0 1 = cc in let u : ⊥ = omega arith in u)
 
   pub run-refused : (x : Refusal) (r : ℕ) → a ≡ R.Refused x → r ≡ refusalNumber x → RunWritten rows old answers r (lent ws cs f (tallyIn t) s) answers′
@@ -63,7 +63,7 @@ module _ (rows : List (Option Edit)) (old : Lent) (answers : List ℕ) (a : Ran)
       go (R.Done m) e h = absurd (let z : _≡_ {A = ℕ} 0 1 = cc in let u : ⊥ = omega arith in u)
       go (R.Refused y) e h =
           let same : y ≡ x = cc in
-          rw (← same) (record { result = ap codeOf (h .answer); state = λ q. some-number y q; set = λ q. some-number y q; replied = λ q. some-number y q; kept = λ q. h .kept refl })
+          rw (← same) (record { result = ap codeOf (h .answer); left = λ q. some-number y q; law = λ q. some-number y q; kept = λ q. h .kept refl })
 
 -- ---- a run from a file
 pub words-done : (w : Written) (n : ℕ) → w ≡ W.Done n → 0 ∷ n ∷ [] ≡ writtenWords w

@@ -7,7 +7,7 @@ ghost use Rattle.call_list.specs.Rows.{rowsIn};
 ghost use Rattle.tally_words.specs.Words.{tallyIn};
 ghost use Rattle.run_export.specs.Written.{RunWritten, OpenedWritten, writtenWords};
 
-// A list of calls, rows of 26 words with two pools: 0, or 12, 13 or 14 where nothing was carried out.
+// A list of calls, rows of 28 words with two pools: 0, or 12, 13 or 14 where nothing was carried out.
 #[no_mangle]
 pub extern "C" fn lane_map_run_calls(
     words: &mut [u64],

@@ -1,60 +1,81 @@
--- One row further in a run. Assumes nothing.
-use Prim.Native.Nat.{ℕ, _+_, _*_, _/_, _%_, _≤_, _<_}
-use mathlib.Core.Path.{_≡_, refl, sym, subst}
-use mathlib.Core.Bool.{Bool, true, false, not, _&&_}
-use mathlib.Core.Option.{Option}
-use mathlib.Core.List.{List, []}
-use lib.Dec.{eqb, ltb}
+-- One row further in a run, and the run of a list of calls. Assumes nothing.
+use Prim.Native.Nat.{ℕ, _+_, _*_, _/_, _≤_, _<_}
+use mathlib.Core.Path.{_≡_, sym, ap, subst, _∙_}
+use mathlib.Core.List.{List}
+use lib.Ieee.{Float}
 use lib.ListN.{length}
 use native.Mathlib.Nat.{div-add-mod'}
 use native.Mathlib.Omega.{arith}
-use Rattle.refusal.specs.Answer.{Answer, refused, done, _>>_, refuseWhen}
+use Rattle.refusal.specs.declared.Refusal.{Refusal}
+use Rattle.refusal.specs.Answer.{done}
 use Rattle.rows.specs.Lists.{listTo}
-use Rattle.rows.specs.Rows.{pasted}
-use Rattle.store.specs.Layout.{allWords, allCoords}
-use Rattle.changes.specs.Layout.{setWords}
-use Rattle.call_list.specs.declared.Ran.{Ran}
-use Rattle.call_list.specs.Ran.{lengthsAnswer, RunLeft}
+use Rattle.rows.specs.Rows.{cut, pasted}
+use Rattle.rows.proofs.RowLaws.{length-cut}
 use Rattle.edit.specs.Lent.{Lent}
-use Rattle.run.specs.Run.{Edit}
+use Rattle.call_list.specs.declared.Ran.{Ran}
+use Rattle.call_list.specs.declared.Ran.the-variants as R
 use Rattle.call_list.specs.declared.Reply.{Reply}
 use Rattle.call_list.specs.Reply.{replyWords}
-use Rattle.call_list.specs.Step.{Held, StepLeft}
-use Rattle.call_list.proofs.Steps.{Fitting}
-use Rattle.call_list.proofs.Walk.{Going, going-on}
+use Rattle.call_list.specs.Step.{Fitting, Held, heldOf, StepLeft}
+use Rattle.call_list.specs.Rows.{rowWords, callAt, rowAt, rowsIn}
+use Rattle.call_list.specs.Ran.{ran, runAnswer, RowsLeft, RunLeft}
+use Rattle.call_list.proofs.Walk.{Going, going-start, going-on, going-end}
+use Rattle.call_list.proofs.Ends.{all-fit, rows-left, left-refused, left-done}
+use Rattle.runs.specs.Loop.{Room}
 
-pub next-row : (f : ℕ → Option Edit) (n : ℕ) (h : Held) (answers : List ℕ) (i : ℕ) (l : Lent) (answers′ : List ℕ) (r : Reply) (l′ : Lent) (o : Option Edit) (answers″ : List ℕ)
-    → n * 4 ≤ length answers → i < n → Fitting l′ → StepLeft o l r l′ → o ≡ f i → answers″ ≡ pasted answers′ (i * 4) (replyWords r) 4
-    → Going f n h answers i l answers′ → Going f n h answers (i + 1) l′ answers″
-next-row f n h answers i l answers′ r l′ o answers″ room q fit s e p g =
-    subst (λ (a : List ℕ). Going f n h answers (i + 1) l′ a) (sym p)
-    (going-on f n h answers i l answers′ r l′ room q fit (subst (λ (x : Option Edit). StepLeft x l r l′) e s) g)
+-- ---- the loop
 
--- ---- how many rows there are
+-- at row i: what is left to do, and what is known from the beginning
+pub record Looping (calls lists : List ℕ) (reals : List Float) (n : ℕ) (old : Lent) (a : List ℕ) (i : ℕ) (l : Lent) (a′ : List ℕ) : Type 0 where
+  pub going : Going (rowAt calls lists reals) n (heldOf old) a i l a′
+  pub room : Room old calls a n
 
-not-done : {A : Type 0} (m k : ℕ) (ds : List ℕ) → _≡_ {A = Answer ℕ} (done m) (refused k ds) → A
-not-done m k ds q = absurd (let z : _≡_ {A = ℕ} 0 1 = cc in let u : ⊥ = omega arith in u)
+pub first-row : (calls lists : List ℕ) (reals : List Float) (n : ℕ) (old : Lent) (answers : List ℕ) → Room old calls answers n → Looping calls lists reals n old answers 0 old answers
+first-row calls lists reals n old answers m = record { going = going-start (rowAt calls lists reals) n old answers (m .tables); room = m }
 
-row-count : (w c f s a k n : ℕ) → done n ≡ lengthsAnswer w c f s a k → n ≡ k
-unfolding lengthsAnswer
-row-count w c f s a k n h = go (not (eqb w allWords && eqb c allCoords)) (not (eqb f setWords && eqb s setWords)) (ltb a (k * 4)) h
-  where
-    go : (x y z : Bool) → done n ≡ (refuseWhen x 12 [] >> (refuseWhen y 13 [] >> (refuseWhen z 14 [] >> done k))) → n ≡ k
-    go true y z h = not-done n 12 [] h
-    go false true z h = not-done n 13 [] h
-    go false false true h = not-done n 14 [] h
-    go false false false h = cc
+next-row′ : (calls lists : List ℕ) (reals : List Float) (n : ℕ) (h : Held) (answers : List ℕ) (i : ℕ) (l : Lent) (answers′ : List ℕ) (r : Reply) (l′ : Lent) (row answers″ : List ℕ)
+    → n * 4 ≤ length answers → i < n → Fitting l′ → StepLeft (callAt row lists reals) l r l′ → row ≡ cut calls (i * rowWords) rowWords → answers″ ≡ pasted answers′ (i * 4) (replyWords r) 4
+    → Going (rowAt calls lists reals) n h answers i l answers′ → Going (rowAt calls lists reals) n h answers (i + 1) l′ answers″
+next-row′ calls lists reals n h answers i l answers′ r l′ row answers″ room q fit s e p g =
+    subst (λ (a : List ℕ). Going (rowAt calls lists reals) n h answers (i + 1) l′ a) (sym p)
+    (going-on (rowAt calls lists reals) n h answers i l answers′ r l′ room q fit (subst (λ (x : List ℕ). StepLeft (callAt x lists reals) l r l′) e s) g)
 
-pub said : (w c f s a k n : ℕ) → done n ≡ lengthsAnswer w c f s a k → (done n ≡ lengthsAnswer w c f s a n) × (n ≡ k)
-said w c f s a k n h = let e = row-count w c f s a k n h in (subst (λ (x : ℕ). done n ≡ lengthsAnswer w c f s a x) (sym e) h, e)
+pub next-row : (calls lists : List ℕ) (reals : List Float) (n : ℕ) (old : Lent) (answers : List ℕ) (i : ℕ) (l : Lent) (answers′ : List ℕ) (r : Reply) (l′ : Lent) (row answers″ : List ℕ)
+    → Looping calls lists reals n old answers i l answers′ → i < n → Fitting l′ → StepLeft (callAt row lists reals) l r l′ → row ≡ cut calls (i * rowWords) rowWords
+    → answers″ ≡ pasted answers′ (i * 4) (replyWords r) 4 → Looping calls lists reals n old answers (i + 1) l′ answers″
+next-row calls lists reals n old answers i l answers′ r l′ row answers″ g q fit s e p = record {
+  going = next-row′ calls lists reals n (heldOf old) answers i l answers′ r l′ row answers″ (g .room .answers) q fit s e p (g .going);
+  room = g .room;
+}
 
--- slices keep their lengths
-pub said-after : (w c f s a k n w′ c′ f′ : ℕ) → done n ≡ lengthsAnswer w c f s a k → w′ ≡ w → c′ ≡ c → f′ ≡ f → done n ≡ lengthsAnswer w′ c′ f′ s a n
-said-after w c f s a k n w′ c′ f′ h p q r = rw (p, q, r) (said w c f s a k n h .0)
+pub last-row : (calls lists : List ℕ) (reals : List Float) (n : ℕ) (old : Lent) (answers : List ℕ) (i : ℕ) (l : Lent) (answers′ : List ℕ) → Looping calls lists reals n old answers i l answers′ → n ≤ i
+    → RowsLeft (listTo (rowAt calls lists reals) n) old answers l answers′
+last-row calls lists reals n old answers i l answers′ g q =
+    let e = going-end (rowAt calls lists reals) n (heldOf old) answers i l answers′ q (g .going) in
+    rows-left (rowAt calls lists reals) n old answers l answers′ (e .0) (e .1)
 
-pub whole-rows : (n k x : ℕ) → n ≡ k → k ≡ x / 26 → n * 26 ≤ x
-whole-rows n k x e q = rw (e, q) (omega (arith, div-add-mod' x 26))
+pub row-words : (calls row : List ℕ) (i n : ℕ) → row ≡ cut calls (i * rowWords) rowWords → i < n → n * rowWords ≤ length calls → length row ≡ rowWords
+row-words calls row i n e q h = ap length e ∙ length-cut calls (i * 28) 28 (omega arith)
 
-pub rows-as : (f : ℕ → Option Edit) (n k : ℕ) (old : Lent) (answers : List ℕ) (r : Ran) (new : Lent) (answers′ : List ℕ) → n ≡ k
-    → RunLeft (listTo f n) old answers r new answers′ → RunLeft (listTo f k) old answers r new answers′
-rows-as f n k old answers r new answers′ e g = subst (λ (x : ℕ). RunLeft (listTo f x) old answers r new answers′) e g
+-- ---- a list of calls
+
+pub whole-rows : (n x : ℕ) → n ≡ x / rowWords → n * rowWords ≤ x
+whole-rows n x e = rw e (omega (arith, div-add-mod' x 28))
+
+module _ (calls lists : List ℕ) (reals : List Float) (old : Lent) (answers : List ℕ) (k : Ran) (h : ran k ≡ runAnswer (length calls / rowWords) old answers) where
+  pub run-refused : (x : Refusal) → k ≡ R.Refused x → RunLeft (rowsIn calls lists reals) old answers (R.Refused x) old answers
+  unfolding rowsIn
+  run-refused x e = left-refused (rowAt calls lists reals) (length calls / rowWords) old answers x (ap ran (sym e) ∙ h)
+
+  counted : (n : ℕ) → k ≡ R.Done n → done n ≡ runAnswer (length calls / rowWords) old answers
+  counted n e = ap ran (sym e) ∙ h
+
+  pub run-room : (n : ℕ) → k ≡ R.Done n → Room old calls answers n
+  run-room n e =
+      let f = all-fit old answers (length calls / rowWords) n (counted n e) in
+      record { tables = f .tables; rows = whole-rows n (length calls) (f .count); answers = f .answers }
+
+  pub run-done : (n : ℕ) → k ≡ R.Done n → (new : Lent) (answers′ : List ℕ) → RowsLeft (listTo (rowAt calls lists reals) n) old answers new answers′
+      → RunLeft (rowsIn calls lists reals) old answers (R.Done n) new answers′
+  unfolding rowsIn
+  run-done n e new answers′ g = left-done (rowAt calls lists reals) (length calls / rowWords) old answers n new answers′ (counted n e) g

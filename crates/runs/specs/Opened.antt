@@ -1,12 +1,12 @@
 -- A map file opened, a list of calls carried out on it, and the running fold written as a change set file. What every run promises, for what this code leaves.
-use Prim.Native.Nat.{ℕ, _*_}
+use Prim.Native.Nat.{ℕ, _*_, _/_}
 use mathlib.Core.Path.{_≡_}
 use mathlib.Core.Bool.{true, false, not, _&&_}
 use mathlib.Core.Option.{Option}
 use mathlib.Core.List.{List, [], _++_}
 use lib.Dec.{eqb}
 use lib.ListN.{length, drop}
-use Rattle.refusal.specs.Answer.{Answer, done, _>>=_, _>>_, refuseWhen}
+use Rattle.refusal.specs.Answer.{Answer, done, refusedAs, _>>_, refuseWhen}
 use Rattle.codec.specs.Format
 use Rattle.codec.specs.Format.{Bytes}
 use Rattle.store.specs.Layout.{allWords, allCoords}
@@ -25,16 +25,28 @@ use Rattle.run.specs.Law.{RunLaw}
 use Rattle.call_list.specs.declared.Ran.{Ran}
 use Rattle.call_list.specs.declared.Ran.the-variants as R
 use Rattle.call_list.specs.Reply.{replyLength}
-use Rattle.call_list.specs.Rows.{editsOf}
+use Rattle.call_list.specs.Rows.{rowWords, editsOf}
 use Rattle.call_list.specs.Ran.{ran, isRefused, roomAnswer, replies, lastSet}
+use Rattle.runs.specs.Loop.{Room}
 
--- 12 for the map's slices and then for bytes that are no map file, 13 for the slices of fold and set, 14 for the answers; else how many rows were carried out
+-- 13 for the slices of fold and set, 14 for the answers of n rows
+unfoldable pub setsAnswer : ℕ → List ℕ → List ℕ → List ℕ → Answer ℕ
+setsAnswer n fold set answers = do
+  refuseWhen (not (eqb (length fold) setWords && eqb (length set) setWords)) 13 []
+  roomAnswer n answers
+
+-- 12 for the map's slices and then for bytes that are no map file, then 13 and 14; else how many rows were carried out
 unfoldable pub openedAnswer : Bytes → List (Option Edit) → Lent → List ℕ → Answer ℕ
 openedAnswer file rows l answers = do
   refuseWhen (not (eqb (length (l .words)) allWords && eqb (length (l .coords)) allCoords)) 12 []
   readMap file
-  refuseWhen (not (eqb (length (l .fold)) setWords && eqb (length (l .set)) setWords)) 13 []
-  roomAnswer (length rows) answers
+  setsAnswer (length rows) (l .fold) (l .set) answers
+
+-- what is tested before the file is opened: a refusal of the whole, or the number of rows where only the file may still be refused
+pub record Tested (file : Bytes) (calls : List ℕ) (l : Lent) (a : List ℕ) (r : Ran) : Type 0 where
+  pub refusal : (x : Refusal) → r ≡ R.Refused x → (rows : List (Option Edit)) → length rows ≡ length calls / rowWords → refusedAs x ≡ openedAnswer file rows l a
+  pub count : (n : ℕ) → r ≡ R.Done n → n ≡ length calls / rowWords
+  pub room : (n : ℕ) → r ≡ R.Done n → Room l calls a n
 
 -- for m the map of the file, es the calls among the rows, and s the state that the tables, the fold and the tally stand for at the end
 pub record LeftByRun (m : Map) (rows : List (Option Edit)) (old : Lent) (answers buffer : List ℕ) (w : Written) (new : Lent) (answers′ buffer′ : List ℕ) : Type 0 where

@@ -5,15 +5,13 @@ use changes::Tally;
 use files::Opened;
 use files::Written;
 use refusal::Refusal;
+use store::layout;
 ghost use mathlib.Core.Path.{_≡_};
-ghost use Prim.Native.Nat.{_*_, _/_, _≤_};
-ghost use lib.ListN.{length};
 ghost use Rattle.rows.specs.Lists.{listTo};
-ghost use Rattle.refusal.specs.Answer.{done};
 ghost use Rattle.call_list.specs.Rows.{rowAt, rowsIn};
-ghost use Rattle.call_list.specs.Ran.{lengthsAnswer, RunLeft};
-ghost use Rattle.runs.specs.Loop.{RowsLeft, noTally};
-ghost use Rattle.runs.specs.Opened.{OpenedLeft};
+ghost use Rattle.call_list.specs.Ran.{ran, RowsLeft, RunLeft};
+ghost use Rattle.runs.specs.Loop.{Room, noTally};
+ghost use Rattle.runs.specs.Opened.{setsAnswer, Tested, OpenedLeft};
 
 // The first n rows, with room for their answers.
 fn run_rows(
@@ -28,13 +26,13 @@ fn run_rows(
     answers: &mut [u64],
     n: usize,
 ) -> Tally
-    requires { ⌜ (done n ≡ lengthsAnswer (length (now words)) (length (now coords)) (length (now fold)) (length (now set)) (length (now answers)) n) × (n * 26 ≤ length (now calls)) ⌝ }
-    ensures { λ r. ⌜ RowsLeft (listTo (rowAt (now (calls .entry)) (now (lists .entry)) (now (reals .entry))) n) n (record { words = now (words .entry); coords = now (coords .entry); fold = now (fold .entry); tally = tally; set = now (set .entry) }) (now (answers .entry)) (record { words = now (words .exit); coords = now (coords .exit); fold = now (fold .exit); tally = r; set = now (set .exit) }) (now (answers .exit)) ⌝ }
+    requires { ⌜ Room (record { words = now words; coords = now coords; fold = now fold; tally = tally; set = now set }) (now calls) (now answers) n ⌝ }
+    ensures { λ r. ⌜ RowsLeft (listTo (rowAt (now (calls .entry)) (now (lists .entry)) (now (reals .entry))) n) (record { words = now (words .entry); coords = now (coords .entry); fold = now (fold .entry); tally = tally; set = now (set .entry) }) (now (answers .entry)) (record { words = now (words .exit); coords = now (coords .exit); fold = now (fold .exit); tally = r; set = now (set .exit) }) (now (answers .exit)) ⌝ }
 {
     let mut kept = tally;
     let mut i = 0;
     while i < n {
-        let at = i * 4;
+        let at = i * call_list::ANSWER;
         let row = call_list::row_at(calls, i);
         let step = row_calls::carry_out(words, coords, fold, kept, set, row, lists, reals);
         let reply = step.reply;
@@ -45,7 +43,7 @@ fn run_rows(
     kept
 }
 
-// Every row of 26 words that is a call is carried out, in order, on what the one before left. Each row has its answer in four words.
+// Every row is carried out, in order, on what the one before left, and has its answer in four words.
 pub fn run_calls(
     words: &mut [u64],
     coords: &mut [f64],
@@ -59,7 +57,7 @@ pub fn run_calls(
 ) -> RunAnswer
     ensures { λ r. ⌜ RunLeft (rowsIn (now (calls .entry)) (now (lists .entry)) (now (reals .entry))) (record { words = now (words .entry); coords = now (coords .entry); fold = now (fold .entry); tally = tally; set = now (set .entry) }) (now (answers .entry)) (r .ran) (record { words = now (words .exit); coords = now (coords .exit); fold = now (fold .exit); tally = r .tally; set = now (set .exit) }) (now (answers .exit)) ⌝ }
 {
-    let checked = call_list::check_run(words, coords, fold, set, calls, answers);
+    let checked = call_list::check_run(words, coords, fold, tally, set, calls, answers);
     match checked {
         Ran::Refused(x) => RunAnswer {
             ran: Ran::Refused(x),
@@ -80,6 +78,51 @@ pub fn run_calls(
                 n,
             ),
         },
+    }
+}
+
+// Whether the fold and the set have their lengths, and whether there is room for the answers of n rows.
+fn check_sets(fold: &[u64], set: &[u64], n: usize, answers: &[u64]) -> Ran
+    ensures { λ r. ⌜ ran r ≡ setsAnswer n (now (fold .entry)) (now (set .entry)) (now (answers .entry)) ⌝ }
+{
+    if fold.len() != changes::layout::WORDS {
+        return Ran::Refused(Refusal::BadSet);
+    }
+    if set.len() != changes::layout::WORDS {
+        return Ran::Refused(Refusal::BadSet);
+    }
+    call_list::check_room(n, answers)
+}
+
+// What a run from a file tests before it opens the file. The file is read here only where something after it is refused: 12 for bytes
+// that are no map file comes first.
+fn check_opened(
+    file: &[u8],
+    words: &[u64],
+    coords: &[f64],
+    fold: &[u64],
+    set: &[u64],
+    calls: &[u64],
+    answers: &[u64],
+) -> Ran
+    ensures { λ r. ⌜ Tested (now (file .entry)) (now (calls .entry)) (record { words = now (words .entry); coords = now (coords .entry); fold = now (fold .entry); tally = noTally; set = now (set .entry) }) (now (answers .entry)) r ⌝ }
+{
+    if words.len() != layout::WORDS {
+        return Ran::Refused(Refusal::BadMap);
+    }
+    if coords.len() != layout::COORDS {
+        return Ran::Refused(Refusal::BadMap);
+    }
+    let checked = check_sets(fold, set, calls.len() / call_list::ROW, answers);
+    match checked {
+        Ran::Done(n) => Ran::Done(n),
+        Ran::Refused(x) => {
+            if files::is_map_file(file) {
+                Ran::Refused(x)
+            } else {
+                Ran::Refused(Refusal::BadMap)
+            }
+        }
     }
 }
 
@@ -106,7 +149,7 @@ pub fn run_opened(
 ) -> OpenedRun
     ensures { λ r. ⌜ OpenedLeft (now (file .entry)) (rowsIn (now (calls .entry)) (now (lists .entry)) (now (reals .entry))) (record { words = now (words .entry); coords = now (coords .entry); fold = now (fold .entry); tally = noTally; set = now (set .entry) }) (now (answers .entry)) (now (buffer .entry)) (r .ran) (r .written) (record { words = now (words .exit); coords = now (coords .exit); fold = now (fold .exit); tally = r .tally; set = now (set .exit) }) (now (answers .exit)) (now (buffer .exit)) ⌝ }
 {
-    let checked = call_list::check_run(words, coords, fold, set, calls, answers);
+    let checked = check_opened(file, words, coords, fold, set, calls, answers);
     match checked {
         Ran::Refused(x) => not_opened(x),
         Ran::Done(n) => {

@@ -1,49 +1,24 @@
 -- `boundary::lamp_cases` meets its contract. Assumes nothing.
-use Rattle.boundary.proofs.Cases.{above, below}
-use Rattle.boundary.specs.Numbers.{lampCases}
+use Rattle.boundary.proofs.Requests.{not-given, past-lamps, given-lamp}
 use borrow.Author.Needs.{needs}
 use Rattle.boundary.proofs.lamp_cases.Statement.{statement}
 use Rattle.boundary.proofs.lamp_cases.Tie as tie
-
-mul-n : tie.Need-mul-n
-mul-n c = search needs
-
-add-n : tie.Need-add-n
-add-n c = search needs
-
-mul-if1 : tie.Need-mul-if1
-mul-if1 c = search needs
 
 shared-slice-read-if1 : tie.Need-shared-slice-read-if1
 shared-slice-read-if1 c = search needs
 
 returns : tie.Need-returns
-unfolding lampCases
-returns c = rw (above 3 _ (c .if1 .taken))
-
-add-result : tie.Need-add-result
-add-result c = search needs
-
-mul-result : tie.Need-mul-result
-mul-result c = search needs
-
-shared-slice-read-result : tie.Need-shared-slice-read-result
-shared-slice-read-result c = search needs
+returns c = search (needs, not-given)
 
 returns-2 : tie.Need-returns-2
-unfolding lampCases
-returns-2 c = rw (below 3 _ (c .before .if1 .left))
+returns-2 c = search (needs, past-lamps)
+
+look-cases-requires : tie.Need-look-cases-requires
+look-cases-requires c κs = search needs
+
+returns-3 : tie.Need-returns-3
+returns-3 c = search (needs, given-lamp)
 
 pub lamp-cases-spec : {M : Type 1} → statement M
 lamp-cases-spec =
-    tie.close
-    (tie.spec
-    mul-n
-    add-n
-    mul-if1
-    shared-slice-read-if1
-    returns
-    add-result
-    mul-result
-    shared-slice-read-result
-    returns-2)
+    tie.close (tie.spec shared-slice-read-if1 returns returns-2 look-cases-requires returns-3)

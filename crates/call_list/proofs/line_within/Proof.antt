@@ -1,6 +1,5 @@
 -- `call_list::line_within` meets its contract. Assumes nothing.
-use mathlib.Core.Path.{sym, _∙_}
-use borrow.Author.Tests.{not-true, not-false}
+use Rattle.boundary.proofs.Tests.{tests}
 use Rattle.call_list.specs.Rows.{lineWithin}
 use borrow.Author.Needs.{needs}
 use Rattle.call_list.proofs.line_within.Statement.{statement}
@@ -17,30 +16,36 @@ within-requires c κs = search needs
 
 returns : tie.Need-returns
 unfolding lineWithin
-returns c = rw (sym (c .before .within .ensures) ∙ not-true _ (c .if1 .taken))
+returns c = search (needs, tests)
 
-shared-slice-read-within-3 : tie.Need-shared-slice-read-within-3
-shared-slice-read-within-3 c = search needs
+shared-slice-read-part-within : tie.Need-shared-slice-read-part-within
+shared-slice-read-part-within c = search needs
 
-within-requires-2 : tie.Need-within-requires-2
-within-requires-2 c κs = search needs
+shared-slice-read-part-within-2 : tie.Need-shared-slice-read-part-within-2
+shared-slice-read-part-within-2 c = search needs
+
+part-within-requires : tie.Need-part-within-requires
+part-within-requires c κs = search needs
 
 returns-2 : tie.Need-returns-2
 unfolding lineWithin
-returns-2 c = rw (sym (c .before .before .before .before .within .ensures) ∙ not-false _ (c .before .before .before .if1 .left), sym (c .before .within2 .ensures) ∙ not-true _ (c .if2 .taken))
+returns-2 c = search (needs, tests)
 
-shared-slice-read-within-4 : tie.Need-shared-slice-read-within-4
-shared-slice-read-within-4 c = search needs
+shared-slice-read-part-within-3 : tie.Need-shared-slice-read-part-within-3
+shared-slice-read-part-within-3 c = search needs
 
-shared-slice-read-within-5 : tie.Need-shared-slice-read-within-5
-shared-slice-read-within-5 c = search needs
+shared-slice-read-part-within-4 : tie.Need-shared-slice-read-part-within-4
+shared-slice-read-part-within-4 c = search needs
 
-within-requires-3 : tie.Need-within-requires-3
-within-requires-3 c κs = search needs
+shared-slice-read-part-within-5 : tie.Need-shared-slice-read-part-within-5
+shared-slice-read-part-within-5 c = search needs
+
+part-within-requires-2 : tie.Need-part-within-requires-2
+part-within-requires-2 c κs = search needs
 
 returns-3 : tie.Need-returns-3
 unfolding lineWithin
-returns-3 c = rw (sym (c .before .before .before .before .before .before .before .within .ensures) ∙ not-false _ (c .before .before .before .before .before .before .if1 .left), sym (c .before .before .before .before .within2 .ensures) ∙ not-false _ (c .before .before .before .if2 .left)) (c .within3 .ensures)
+returns-3 c = search (needs, tests)
 
 pub line-within-spec : {M : Type 1} → statement M
 line-within-spec =
@@ -50,10 +55,12 @@ line-within-spec =
     shared-slice-read-within-2
     within-requires
     returns
-    shared-slice-read-within-3
-    within-requires-2
+    shared-slice-read-part-within
+    shared-slice-read-part-within-2
+    part-within-requires
     returns-2
-    shared-slice-read-within-4
-    shared-slice-read-within-5
-    within-requires-3
+    shared-slice-read-part-within-3
+    shared-slice-read-part-within-4
+    shared-slice-read-part-within-5
+    part-within-requires-2
     returns-3)

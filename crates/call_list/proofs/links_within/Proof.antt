@@ -1,6 +1,5 @@
 -- `call_list::links_within` meets its contract. Assumes nothing.
-use mathlib.Core.Path.{sym, _∙_}
-use borrow.Author.Tests.{not-true, not-false}
+use Rattle.boundary.proofs.Tests.{tests}
 use Rattle.call_list.specs.Rows.{linksWithin}
 use borrow.Author.Needs.{needs}
 use Rattle.call_list.proofs.links_within.Statement.{statement}
@@ -17,7 +16,7 @@ within-requires c κs = search needs
 
 returns : tie.Need-returns
 unfolding linksWithin
-returns c = rw (sym (c .before .within .ensures) ∙ not-true _ (c .if1 .taken))
+returns c = search (needs, tests)
 
 shared-slice-read-within-3 : tie.Need-shared-slice-read-within-3
 shared-slice-read-within-3 c = search needs
@@ -30,7 +29,7 @@ within-requires-2 c κs = search needs
 
 returns-2 : tie.Need-returns-2
 unfolding linksWithin
-returns-2 c = rw (sym (c .before .before .before .before .before .within .ensures) ∙ not-false _ (c .before .before .before .before .if1 .left), sym (c .before .within2 .ensures) ∙ not-true _ (c .if2 .taken))
+returns-2 c = search (needs, tests)
 
 shared-slice-read-within-5 : tie.Need-shared-slice-read-within-5
 shared-slice-read-within-5 c = search needs
@@ -43,7 +42,7 @@ within-requires-3 c κs = search needs
 
 returns-3 : tie.Need-returns-3
 unfolding linksWithin
-returns-3 c = rw (sym (c .before .before .before .before .before .before .before .before .within .ensures) ∙ not-false _ (c .before .before .before .before .before .before .before .if1 .left), sym (c .before .before .before .before .within2 .ensures) ∙ not-false _ (c .before .before .before .if2 .left)) (c .within3 .ensures)
+returns-3 c = search (needs, tests)
 
 pub links-within-spec : {M : Type 1} → statement M
 links-within-spec =

@@ -26,7 +26,11 @@ same-length-4 : tie.Need-same-length-4
 same-length-4 c = search needs
 
 returns : tie.Need-returns
-returns c = step-written _ _ _ _ _ _ _ _ _ _ _ _ _ _ _ (c .before .before .before .before .before .before .before .before .before .before .before .before .before .before .before .before .before .before .tally-of .ensures) (c .before .before .before .before .before .before .before .before .before .before .before .signal-by .ensures) (c .answer-with .ensures .0) (c .answer-with .ensures .1) (c .answer-with .ensures .2)
+returns c =
+    let called′ = c .before .before .before .before .before .before in
+    let called = called′ .before .before .before .before .before in
+    let told = called .before .before .before .before .before .before in
+    step-written _ _ _ _ _ _ _ _ _ _ _ _ _ _ _ (told .tally-of .ensures) (called .signal-by .ensures) (c .answer-with .ensures .0) (c .answer-with .ensures .1) (c .answer-with .ensures .2)
 
 pub lane-map-add-traffic-signal-spec : {M : Type 1} → statement M
 lane-map-add-traffic-signal-spec =

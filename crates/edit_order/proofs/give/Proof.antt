@@ -12,8 +12,8 @@ number-at-requires c κs = search needs
 hash-requires : tie.Need-hash-requires
 hash-requires c κs = search needs
 
-room-requires : tie.Need-room-requires
-room-requires c κs = search needs
+at-most-requires : tie.Need-at-most-requires
+at-most-requires c κs = search needs
 
 slice-relend-prefix-write-changes : tie.Need-slice-relend-prefix-write-changes
 slice-relend-prefix-write-changes c = search needs
@@ -42,7 +42,7 @@ give-spec =
     (tie.spec
     number-at-requires
     hash-requires
-    room-requires
+    at-most-requires
     slice-relend-prefix-write-changes
     slice-aggregate-write-changes
     write-changes-requires

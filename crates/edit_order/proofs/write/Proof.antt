@@ -12,8 +12,8 @@ number-at-requires c κs = search needs
 hash-requires : tie.Need-hash-requires
 hash-requires c κs = search needs
 
-room-requires : tie.Need-room-requires
-room-requires c κs = search needs
+at-most-requires : tie.Need-at-most-requires
+at-most-requires c κs = search needs
 
 slice-relend-prefix-write-map : tie.Need-slice-relend-prefix-write-map
 slice-relend-prefix-write-map c = search needs
@@ -42,7 +42,7 @@ write-spec =
     (tie.spec
     number-at-requires
     hash-requires
-    room-requires
+    at-most-requires
     slice-relend-prefix-write-map
     slice-aggregate-write-map
     write-map-requires

@@ -1,7 +1,5 @@
 -- `numbered::links_by` meets its contract. Assumes nothing.
-use mathlib.Core.Path.{refl}
-use Rattle.run.specs.Run.{runOne}
-use Rattle.call_list.proofs.Steps.{was-called}
+use Rattle.call_list.proofs.Numbers.{links-called}
 use borrow.Author.Needs.{needs}
 use Rattle.numbered.proofs.links_by.Statement.{statement}
 use Rattle.numbered.proofs.links_by.Tie as tie
@@ -25,8 +23,7 @@ same-length-4 : tie.Need-same-length-4
 same-length-4 c = search needs
 
 returns : tie.Need-returns
-unfolding runOne
-returns c = was-called _ _ _ _ _ _ _ _ _ _ _ (refl) (c .before .before .before .before .before .before .before .before .before .set-regulatory-links .ensures) (c .in-words .ensures .0) (c .in-words .ensures .1)
+returns c = search (needs, links-called)
 
 pub links-by-spec : {M : Type 1} → statement M
 links-by-spec =

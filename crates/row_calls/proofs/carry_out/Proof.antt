@@ -1,7 +1,5 @@
 -- `row_calls::carry_out` meets its contract. Assumes nothing.
-use Rattle.call_list.proofs.Steps.{not-called}
 use Rattle.call_list.proofs.Decode.{is-line, is-signal, is-links, is-none}
-use Rattle.row_calls.proofs.Laws.{as-step}
 use borrow.Author.Needs.{needs}
 use Rattle.row_calls.proofs.carry_out.Statement.{statement}
 use Rattle.row_calls.proofs.carry_out.Tie as tie
@@ -25,7 +23,7 @@ same-length-4 : tie.Need-same-length-4
 same-length-4 c = search needs
 
 returns : tie.Need-returns
-returns c = as-step _ _ _ _ _ (is-line _ _ _ (c .before .before .before .before .before .before .before .before .before .before .before .before .before .if1 .taken)) (c .before .before .before .before .before .before .before .before .line-row .ensures)
+returns c = search (needs, is-line)
 
 signal-row-requires : tie.Need-signal-row-requires
 signal-row-requires c κs = search needs
@@ -43,7 +41,7 @@ same-length-8 : tie.Need-same-length-8
 same-length-8 c = search needs
 
 returns-2 : tie.Need-returns-2
-returns-2 c = as-step _ _ _ _ _ (is-signal _ _ _ (c .before .before .before .before .before .before .before .before .before .before .before .before .before .if2 .taken)) (c .before .before .before .before .before .before .before .before .signal-row .ensures)
+returns-2 c = search (needs, is-signal)
 
 links-row-requires : tie.Need-links-row-requires
 links-row-requires c κs = search needs
@@ -61,13 +59,25 @@ same-length-12 : tie.Need-same-length-12
 same-length-12 c = search needs
 
 returns-3 : tie.Need-returns-3
-returns-3 c = as-step _ _ _ _ _ (is-links _ _ _ (c .before .before .before .before .before .before .before .before .before .before .before .before .before .if3 .taken)) (c .before .before .before .before .before .before .before .before .links-row .ensures)
+returns-3 c = search (needs, is-links)
 
 not-called-requires : tie.Need-not-called-requires
 not-called-requires c κs = search needs
 
+same-length-13 : tie.Need-same-length-13
+same-length-13 c = search needs
+
+same-length-14 : tie.Need-same-length-14
+same-length-14 c = search needs
+
+same-length-15 : tie.Need-same-length-15
+same-length-15 c = search needs
+
+same-length-16 : tie.Need-same-length-16
+same-length-16 c = search needs
+
 returns-4 : tie.Need-returns-4
-returns-4 c = not-called _ _ _ _ _ _ _ _ (is-none _ _ _ (c .before .before .before .if1 .left) (c .before .before .if2 .left) (c .before .if3 .left)) (c .not-called .ensures .0) (c .not-called .ensures .1)
+returns-4 c = search (needs, is-none)
 
 pub carry-out-spec : {M : Type 1} → statement M
 carry-out-spec =
@@ -93,4 +103,8 @@ carry-out-spec =
     same-length-12
     returns-3
     not-called-requires
+    same-length-13
+    same-length-14
+    same-length-15
+    same-length-16
     returns-4)

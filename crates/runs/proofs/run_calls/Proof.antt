@@ -1,10 +1,6 @@
 -- `runs::run_calls` meets its contract. Assumes nothing.
-use mathlib.Core.Path.{refl, sym, ap, _∙_}
-use native.Mathlib.Omega.{arith}
-use Rattle.call_list.specs.Rows.{rowsIn}
-use Rattle.call_list.specs.Ran.{ran}
-use Rattle.call_list.proofs.Ends.{left-refused}
-use Rattle.runs.proofs.RowLaws.{said, whole-rows, rows-as}
+use mathlib.Core.List.{[]}
+use Rattle.runs.proofs.RowLaws.{run-refused, run-room, run-done}
 use borrow.Author.Needs.{needs}
 use Rattle.runs.proofs.run_calls.Statement.{statement}
 use Rattle.runs.proofs.run_calls.Tie as tie
@@ -19,7 +15,10 @@ enum-known-checked-2 : tie.Need-enum-known-checked-2
 enum-known-checked-2 c = search needs
 
 run-rows-requires : tie.Need-run-rows-requires
-run-rows-requires c κs = let a = said _ _ _ _ _ _ _ (sym (ap ran (c .before .before .before .before .before .before .checked2 .given .1)) ∙ c .before .before .before .before .before .before .before .before .check-run .ensures) in (a .0, whole-rows _ _ _ (a .1) refl)
+run-rows-requires c κs =
+    let b₁ = c .before .before .before .before .before .before in
+    let b₂ = b₁ .before .before in
+    run-room _ [] [] _ _ _ (b₂ .check-run .ensures) _ (b₁ .checked2 .given .1)
 
 same-length : tie.Need-same-length
 same-length c = search needs
@@ -37,8 +36,10 @@ same-length-5 : tie.Need-same-length-5
 same-length-5 c = search needs
 
 returns : tie.Need-returns
-unfolding rowsIn
-returns c = left-refused _ _ _ _ _ (sym (ap ran (c .before .checked .given .1)) ∙ c .before .before .before .check-run .ensures)
+returns c =
+    let b₁ = c .before in
+    let b₂ = b₁ .before .before in
+    run-refused _ _ _ _ _ _ (b₂ .check-run .ensures) _ (b₁ .checked .given .1)
 
 same-length-6 : tie.Need-same-length-6
 same-length-6 c = search needs
@@ -56,8 +57,13 @@ same-length-10 : tie.Need-same-length-10
 same-length-10 c = search needs
 
 returns-2 : tie.Need-returns-2
-unfolding rowsIn
-returns-2 c = rows-as _ _ _ _ _ _ _ _ (said _ _ _ _ _ _ _ (sym (ap ran (c .before .before .before .before .before .before .before .before .before .before .before .before .before .before .before .before .before .checked2 .given .1)) ∙ c .before .before .before .before .before .before .before .before .before .before .before .before .before .before .before .before .before .before .before .check-run .ensures) .1) (c .before .before .before .before .before .before .before .before .before .before .run-rows .ensures)
+returns-2 c =
+    let b₁ = c .before .before .before .before .before .before in
+    let b₂ = b₁ .before .before .before .before in
+    let b₃ = b₂ .before .before .before .before .before .before in
+    let b₄ = b₃ .before in
+    let b₅ = b₄ .before .before in
+    run-done _ _ _ _ _ _ (b₅ .check-run .ensures) _ (b₄ .checked2 .given .1) _ _ (b₂ .run-rows .ensures)
 
 pub run-calls-spec : {M : Type 1} → statement M
 run-calls-spec =

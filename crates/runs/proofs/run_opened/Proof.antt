@@ -1,16 +1,13 @@
 -- `runs::run_opened` meets its contract. Assumes nothing.
-use mathlib.Core.Path.{refl, sym, ap, _∙_}
+use mathlib.Core.List.{[]}
 use native.Mathlib.Omega.{arith}
-use Rattle.call_list.specs.Rows.{rowsIn}
-use Rattle.call_list.specs.Ran.{ran}
-use Rattle.runs.proofs.RowLaws.{said, said-after, whole-rows}
-use Rattle.runs.proofs.OpenedLaws.{out-for-lengths, out-for-file, all-done}
+use Rattle.runs.proofs.OpenedLaws.{room-after, out-before, out-for-file, out-done}
 use borrow.Author.Needs.{needs}
 use Rattle.runs.proofs.run_opened.Statement.{statement}
 use Rattle.runs.proofs.run_opened.Tie as tie
 
-check-run-requires : tie.Need-check-run-requires
-check-run-requires c κs = search needs
+check-opened-requires : tie.Need-check-opened-requires
+check-opened-requires c κs = search needs
 
 enum-known-checked : tie.Need-enum-known-checked
 enum-known-checked c = search needs
@@ -34,7 +31,14 @@ enum-known-opened-2 : tie.Need-enum-known-opened-2
 enum-known-opened-2 c = search needs
 
 run-rows-requires : tie.Need-run-rows-requires
-run-rows-requires c κs = (said-after _ _ _ _ _ _ _ _ _ _ (sym (ap ran (c .before .before .before .before .before .before .before .before .before .before .before .before .before .before .before .before .before .before .before .checked2 .given .1)) ∙ c .before .before .before .before .before .before .before .before .before .before .before .before .before .before .before .before .before .before .before .before .before .check-run .ensures) (omega (arith, c .before .before .before .before .before .before .before .before .before .before .before .before .before .words .given)) (omega (arith, c .before .before .before .before .before .before .before .before .before .before .before .coords .given)) (omega (arith, c .before .before .before .before .before .before .before .before .before .fold .given)), whole-rows _ _ _ (said _ _ _ _ _ _ _ (sym (ap ran (c .before .before .before .before .before .before .before .before .before .before .before .before .before .before .before .before .before .before .before .checked2 .given .1)) ∙ c .before .before .before .before .before .before .before .before .before .before .before .before .before .before .before .before .before .before .before .before .before .check-run .ensures) .1) refl)
+run-rows-requires c κs =
+    let b₁ = c .before .before .before .before .before .before in
+    let b₂ = b₁ .before .before .before in
+    let b₃ = b₂ .before .before in
+    let b₄ = b₃ .before .before in
+    let b₅ = b₄ .before .before .before .before .before .before in
+    let b₆ = b₅ .before .before in
+    room-after _ _ [] [] _ _ _ _ _ [] _ (b₆ .check-opened .ensures) _ (b₅ .checked2 .given .1) _ _ _ _ (omega (arith, b₄ .words .given)) (omega (arith, b₃ .coords .given)) (omega (arith, b₂ .fold .given))
 
 write-changes-requires : tie.Need-write-changes-requires
 write-changes-requires c κs = search needs
@@ -55,8 +59,10 @@ same-length-5 : tie.Need-same-length-5
 same-length-5 c = search needs
 
 returns : tie.Need-returns
-unfolding rowsIn
-returns c = out-for-lengths _ _ _ _ _ _ _ _ _ _ _ _ _ (sym (ap ran (c .before .before .checked .given .1)) ∙ c .before .before .before .before .check-run .ensures) (c .not-opened .ensures)
+returns c =
+    let b₁ = c .before .before in
+    let b₂ = b₁ .before .before in
+    out-before _ _ _ _ _ _ _ _ _ _ _ (b₂ .check-opened .ensures) _ (b₁ .checked .given .1) _ _ _ (c .not-opened .ensures)
 
 same-length-6 : tie.Need-same-length-6
 same-length-6 c = search needs
@@ -74,8 +80,13 @@ same-length-10 : tie.Need-same-length-10
 same-length-10 c = search needs
 
 returns-2 : tie.Need-returns-2
-unfolding rowsIn
-returns-2 c = out-for-file _ _ _ _ _ _ _ _ _ _ (sym (ap ran (c .before .before .before .before .before .before .before .before .before .before .before .before .before .before .before .checked2 .given .1)) ∙ c .before .before .before .before .before .before .before .before .before .before .before .before .before .before .before .before .before .check-run .ensures) _ _ _ _ _ _ _ _ (c .before .before .before .before .before .before .before .before .before .before .open-map .ensures) (c .before .before .opened .given .1) (c .not-opened2 .ensures)
+returns-2 c =
+    let b₁ = c .before .before in
+    let b₂ = b₁ .before .before .before .before .before .before in
+    let b₃ = b₂ .before .before in
+    let b₄ = b₃ .before .before .before .before .before in
+    let b₅ = b₄ .before .before in
+    out-for-file _ _ _ _ _ _ _ _ _ _ _ (b₅ .check-opened .ensures) _ (b₄ .checked2 .given .1) _ _ _ _ _ (b₃ .open-map .ensures) (b₁ .opened .given .1) _ _ _ (c .not-opened2 .ensures)
 
 same-length-11 : tie.Need-same-length-11
 same-length-11 c = search needs
@@ -96,14 +107,25 @@ same-length-16 : tie.Need-same-length-16
 same-length-16 c = search needs
 
 returns-3 : tie.Need-returns-3
-unfolding rowsIn
-returns-3 c = all-done _ _ _ _ _ _ _ _ _ _ (sym (ap ran (c .before .before .before .before .before .before .before .before .before .before .before .before .before .before .before .before .before .before .before .before .before .before .before .before .before .before .before .before .before .before .before .before .before .before .before .checked2 .given .1)) ∙ c .before .before .before .before .before .before .before .before .before .before .before .before .before .before .before .before .before .before .before .before .before .before .before .before .before .before .before .before .before .before .before .before .before .before .before .before .before .check-run .ensures) _ _ _ _ _ _ _ _ _ (c .before .before .before .before .before .before .before .before .before .before .before .before .before .before .before .before .before .before .before .before .before .before .before .before .before .before .before .before .before .before .open-map .ensures) (c .before .before .before .before .before .before .before .before .before .before .before .before .before .before .before .before .before .before .before .before .before .before .opened2 .given .1) (c .before .before .before .before .before .before .before .before .before .before .before .before .before .before .before .run-rows .ensures) (omega (arith, c .before .before .before .before .before .before .before .before .before .before .fold2 .given, c .before .before .before .before .before .before .before .before .before .before .before .before .before .before .before .before .before .before .before .before .before .before .before .before .before .fold .given)) (c .before .before .write-changes .ensures)
+returns-3 c =
+    let b₁ = c .before .before in
+    let b₂ = b₁ .before .before .before .before .before .before in
+    let b₃ = b₂ .before .before in
+    let b₄ = b₃ .before .before .before .before .before in
+    let b₅ = b₄ .before .before .before .before .before .before in
+    let b₆ = b₅ .before in
+    let b₇ = b₆ .before .before .before in
+    let b₈ = b₇ .before .before .before .before .before in
+    let b₉ = b₈ .before .before .before .before .before in
+    let b₁₀ = b₉ .before .before in
+    out-done _ _ _ _ _ _ _ _ _ _ _ (b₁₀ .check-opened .ensures) _ (b₉ .checked2 .given .1) _ _ _ _ _ (b₈ .open-map .ensures) (b₆ .opened2 .given .1) _ _ _ _
+    (b₄ .run-rows .ensures) (omega (arith, b₃ .fold2 .given, b₇ .fold .given)) (b₁ .write-changes .ensures)
 
 pub run-opened-spec : {M : Type 1} → statement M
 run-opened-spec =
     tie.close
     (tie.spec
-    check-run-requires
+    check-opened-requires
     enum-known-checked
     not-opened-requires
     enum-known-checked-2
