@@ -23,6 +23,8 @@ extern "C" {
 #define LANE_MAP_COORDS 105280 /* coords: the map's coordinates */
 #define LANE_MAP_SET 3556      /* fold:   the running fold; set: the change set of the last accepted call */
 #define LANE_MAP_ROW 28        /* a row of a list of calls */
+#define LANE_MAP_ANSWER 4      /* an answer */
+#define LANE_MAP_NO_CALL 255   /* the answer to what is no call */
 
 /* The tally: how many entries the running fold has as created, modified and deleted.
 
@@ -85,7 +87,7 @@ uint64_t lane_map_set_regulatory_links(
     const uint64_t *stop_lines, size_t stop_lines_len, uint64_t answer[4]);
 
 /* A list of calls, carried out one after another: rows of 28 words; their lists stand in two pools. A place and a count name a part
-   of a pool. A part that the call reads must lie within its pool, also where it is empty; else the row is no such call (255), and the
+   of a pool. Words after the last whole row are passed over. A part that the call reads must lie within its pool, also where it is empty; else the row is no such call (255), and the
    rows after it go on.
      word 0: 1 stop line, 2 light, 3 links, anything else no such call; words 1, 2: place and count of the lanes in lists
      stop line: 3 placement, 4 rule, 5 place of the measure in reals, 6, 7 place and count of the given coordinates in reals
