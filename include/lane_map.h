@@ -5,7 +5,9 @@
    memory is there and that no two pieces that are written overlap anything else that is lent. A slice is a pointer and a count
    of its elements. A refused call leaves all memory as it was, but the answer that it writes.
 
-   Stack: a call works in memory of its own, on the stack of its caller's thread: lend it 192 KB. */
+   Stack: a call works on the stack of its caller's thread and takes no other memory; nothing is kept between calls. Lend it 192 KB.
+   Measured: 172 KB for a light beside a fold with more than 256 entries in a list, 84 KB beside a shorter one; 76 KB for a stop line,
+   64 KB for links, 36 KB and less for files. */
 #ifndef LANE_MAP_H
 #define LANE_MAP_H
 
