@@ -1,5 +1,8 @@
 pub mod Worked
+pub mod Doubles
+pub mod Answers
 mod Cases
 pub mod Sound
 pub mod LineLaws
 pub mod SectionLaws
+pub mod EndLaws

@@ -35,6 +35,8 @@ use Rattle.map.specs.Lookup.{laneOf, oriented}
 use Rattle.map.specs.Tables.{laneIn, mapOf}
 use Rattle.map.specs.Access.{lookup, LaneRead, laneOfRow}
 use Rattle.map.proofs.ReadLaws.{found-record, none-record, lane-number}
+use Rattle.place.specs.declared.LaneSide.the-variants.{Left, Right}
+use Rattle.place.specs.declared.EndName.{EndName}
 use Rattle.place.specs.declared.SideNearest.{SideNearest}
 use Rattle.place.specs.declared.SectionEnd.{SectionEnd}
 use Rattle.place.specs.declared.MaybeEnd.{MaybeEnd}
@@ -42,9 +44,9 @@ use Rattle.place.specs.declared.MaybeEnd.the-variants as e
 use Rattle.place.specs.declared.SectionEnds.{SectionEnds}
 use Rattle.place.specs.declared.Walked.{Walked}
 use Rattle.place.specs.declared.Walked.the-variants as w
-use Rattle.place.specs.Place.{End, Ends, outer, widened, withSide, withLane, withLanes, section, crossSection, laneCenterline}
-use Rattle.place.specs.Steps.{outerLeft, outerRight, noEnds, withSides, sectionOn}
-use Rattle.place.specs.Values.{Roomy, sideOf, sidesOf, sideNearest, nearestIn, endOf, maybeEnd, endsOf, walked}
+use Rattle.place.specs.Place.{End, Ends, Section, outer, widened, withSide, withLane, withLanes, section, crossSection, laneCenterline}
+use Rattle.place.specs.Steps.{outerLeft, outerRight, noEnds, NamedSide, withSides, sectionOn}
+use Rattle.place.specs.Values.{Roomy, sideOf, sidesOf, noSide, sideNearest, nearestIn, endOf, maybeEnd, endsOf, walked}
 use Rattle.place.proofs.LineLaws.{line-part}
 
 -- ---- ends
@@ -63,11 +65,11 @@ module _ (beats : Float → Float → Bool) (best : MaybeEnd) (x : SectionEnd) w
     unfolding outer
     outer-old t = rw (q, t)
 
-pub widened-is : (p : Point3) (normal : Point2) (n : NearestPoint) (es : SectionEnds) (u v w : Point2) (d : Float) (l r : MaybeEnd) → u ≡ xy (n .point) → v ≡ xy p → w ≡ sub2 u v → d ≡ dot normal w
-    → maybeEnd l ≡ outerLeft (maybeEnd (es .left)) (record { lateral = d; point = n .point }) → maybeEnd r ≡ outerRight (maybeEnd (es .right)) (record { lateral = d; point = n .point })
-    → record { left = maybeEnd l; right = maybeEnd r } ≡ widened p normal (some n) (endsOf es)
+pub widened-is : (p : Point3) (normal : Point2) (x : EndName) (n : NearestPoint) (es : SectionEnds) (u v w : Point2) (d : Float) (l r : MaybeEnd) → u ≡ xy (n .point) → v ≡ xy p → w ≡ sub2 u v → d ≡ dot normal w
+    → maybeEnd l ≡ outerLeft (maybeEnd (es .left)) (record { lateral = d; point = n .point; name = x }) → maybeEnd r ≡ outerRight (maybeEnd (es .right)) (record { lateral = d; point = n .point; name = x })
+    → record { left = maybeEnd l; right = maybeEnd r } ≡ widened p normal x (some n) (endsOf es)
 unfolding widened
-widened-is p normal n es u v w d l r eu ev ew ed el er = rw (el, er, ed, ew, eu, ev)
+widened-is p normal x n es u v w d l r eu ev ew ed el er = rw (el, er, ed, ew, eu, ev)
 
 pub nearest-is : (l : Line) (p : Point2) (o : Option NearestPoint) → Roomy l → o ≡ nearestPoint (polylineOf (take (l .count * 3) (l .coords))) p → o ≡ nearestPoint (pointsOf l) p
 nearest-is l p o h e = e ∙ ap (λ (xs : Polyline). nearestPoint xs p) (line-part l h)
@@ -81,69 +83,69 @@ some-same : {x y : Option NearestPoint} → some x ≡ some y → x ≡ y
 some-same e = cc
 
 module _ (row : LaneRow) (k : ℕ) where
-  pub side-left : k ≡ 0 → sideOf (row .left) (row .«left_reversed») ≡ getD (sidesOf row) k (sideOf 0 false)
+  pub side-left : k ≡ 0 → record { side = Left; boundary = sideOf (row .left) (row .«left_reversed») } ≡ getD (sidesOf row) k noSide
   side-left q = rw q
 
-  pub side-right : k < 2 → (k ≡ 0 → ⊥) → sideOf (row .right) (row .«right_reversed») ≡ getD (sidesOf row) k (sideOf 0 false)
+  pub side-right : k < 2 → (k ≡ 0 → ⊥) → record { side = Right; boundary = sideOf (row .right) (row .«right_reversed») } ≡ getD (sidesOf row) k noSide
   side-right h q = let r : k ≡ 1 = omega (arith, q) in rw r
 
-module _ (m : Map) (p : Point3) (normal : Point2) (s : BoundaryRef) (es : Ends) where
-  side-none : oriented m s ≡ none → withSide m p normal s es ≡ refused 6 (4 ∷ [])
+module _ (m : Map) (p : Point3) (normal : Point2) (x : EndName) (s : BoundaryRef) (es : Ends) where
+  side-none : oriented m s ≡ none → withSide m p normal x s es ≡ refused 6 (4 ∷ [])
   unfolding withSide
   side-none q = rw q
 
-  side-some : (b : Polyline) → oriented m s ≡ some b → withSide m p normal s es ≡ done (widened p normal (nearestPoint b (xy p)) es)
+  side-some : (b : Polyline) → oriented m s ≡ some b → withSide m p normal x s es ≡ done (widened p normal x (nearestPoint b (xy p)) es)
   unfolding withSide
   side-some b q = rw q
 
--- es are the ends after k sides
-pub record Siding (m : Map) (p : Point3) (normal : Point2) (row : LaneRow) (first es : Ends) (k : ℕ) : Type 0 where
+-- es are the ends after k sides of a lane
+pub record Siding (m : Map) (p : Point3) (normal : Point2) (lane : ℕ) (row : LaneRow) (first es : Ends) (k : ℕ) : Type 0 where
   pub within : k ≤ 2
-  pub goes : withSides m p normal (sidesOf row) first ≡ withSides m p normal (drop k (sidesOf row)) es
+  pub goes : withSides m p normal lane (sidesOf row) first ≡ withSides m p normal lane (drop k (sidesOf row)) es
 
-pub siding-start : (m : Map) (p : Point3) (normal : Point2) (row : LaneRow) (es : Ends) → Siding m p normal row es es 0
-siding-start m p normal row es = record { within = omega arith; goes = refl }
+pub siding-start : (m : Map) (p : Point3) (normal : Point2) (lane : ℕ) (row : LaneRow) (es : Ends) → Siding m p normal lane row es es 0
+siding-start m p normal lane row es = record { within = omega arith; goes = refl }
 
-module _ (m : Map) (p : Point3) (normal : Point2) (row : LaneRow) (first es : Ends) (k : ℕ) (inv : Siding m p normal row first es k) where
-  pub siding-end : 2 ≤ k → done es ≡ withSides m p normal (sidesOf row) first
+module _ (m : Map) (p : Point3) (normal : Point2) (lane : ℕ) (row : LaneRow) (first es : Ends) (k : ℕ) (inv : Siding m p normal lane row first es k) where
+  pub siding-end : 2 ≤ k → done es ≡ withSides m p normal lane (sidesOf row) first
   unfolding withSides
   siding-end h = sym (inv .goes ∙ rw (drop-of-length-le (sidesOf row) h))
 
-  module _ (h : k < 2) (n : ℕ) (r : Bool) (e : sideOf n r ≡ getD (sidesOf row) k (sideOf 0 false)) (q : Point2) (eq : q ≡ xy p)
-      (b : SideNearest) (read : sideNearest b ≡ nearestIn (oriented m (sideOf n r)) q) where
-    step : withSides m p normal (sidesOf row) first ≡ (withSide m p normal (sideOf n r) es >>= λ one. withSides m p normal (drop (suc k) (sidesOf row)) one)
+  module _ (h : k < 2) (s : NamedSide) (e : s ≡ getD (sidesOf row) k noSide) (q : Point2) (eq : q ≡ xy p)
+      (b : SideNearest) (read : sideNearest b ≡ nearestIn (oriented m (s .boundary)) q) where
+    step : withSides m p normal lane (sidesOf row) first ≡ (withSide m p normal (record { lane = lane; side = s .side }) (s .boundary) es >>= λ one. withSides m p normal lane (drop (suc k) (sidesOf row)) one)
     unfolding withSides
-    step = inv .goes ∙ rw (drop-cons (sidesOf row) k (sideOf 0 false) h, ← e)
+    step = inv .goes ∙ rw (drop-cons (sidesOf row) k noSide h, ← e)
 
-    missing : (o : Option Polyline) → oriented m (sideOf n r) ≡ o → b .there ≡ false → sideNearest b ≡ nearestIn o q → withSide m p normal (sideOf n r) es ≡ refused 6 (4 ∷ [])
-    missing none g f w = side-none m p normal (sideOf n r) es g
+    missing : (o : Option Polyline) → oriented m (s .boundary) ≡ o → b .there ≡ false → sideNearest b ≡ nearestIn o q → withSide m p normal (record { lane = lane; side = s .side }) (s .boundary) es ≡ refused 6 (4 ∷ [])
+    missing none g f w = side-none m p normal (record { lane = lane; side = s .side }) (s .boundary) es g
     missing (some l) g f w = absurd (none-some (sym (ap (λ (t : Bool). cond t (some (maybeNearest (b .nearest))) none) f) ∙ w))
 
-    pub siding-missing : not (b .there) ≡ true → refused 6 (4 ∷ []) ≡ withSides m p normal (sidesOf row) first
-    siding-missing t = sym (step ∙ rw (missing (oriented m (sideOf n r)) refl (not-true (b .there) t) read))
+    pub siding-missing : not (b .there) ≡ true → refused 6 (4 ∷ []) ≡ withSides m p normal lane (sidesOf row) first
+    siding-missing t = sym (step ∙ rw (missing (oriented m (s .boundary)) refl (not-true (b .there) t) read))
 
-    one : (o : Option Polyline) → oriented m (sideOf n r) ≡ o → b .there ≡ true → sideNearest b ≡ nearestIn o q
-        → withSide m p normal (sideOf n r) es ≡ done (widened p normal (maybeNearest (b .nearest)) es)
+    one : (o : Option Polyline) → oriented m (s .boundary) ≡ o → b .there ≡ true → sideNearest b ≡ nearestIn o q
+        → withSide m p normal (record { lane = lane; side = s .side }) (s .boundary) es ≡ done (widened p normal (record { lane = lane; side = s .side }) (maybeNearest (b .nearest)) es)
     one none g f w = absurd (none-some (sym w ∙ ap (λ (t : Bool). cond t (some (maybeNearest (b .nearest))) none) f))
     one (some l) g f w =
-        side-some m p normal (sideOf n r) es l g
-        ∙ ap (λ (o : Option NearestPoint). done (widened p normal o es)) (sym (some-same (sym (ap (λ (t : Bool). cond t (some (maybeNearest (b .nearest))) none) f) ∙ w) ∙ ap (nearestPoint l) eq))
+        side-some m p normal (record { lane = lane; side = s .side }) (s .boundary) es l g
+        ∙ ap (λ (o : Option NearestPoint). done (widened p normal (record { lane = lane; side = s .side }) o es)) (sym (some-same (sym (ap (λ (t : Bool). cond t (some (maybeNearest (b .nearest))) none) f) ∙ w) ∙ ap (nearestPoint l) eq))
 
-    next : (o : Option NearestPoint) → not (b .there) ≡ false → maybeNearest (b .nearest) ≡ o → Siding m p normal row first (widened p normal o es) (k + 1)
+    next : (o : Option NearestPoint) → not (b .there) ≡ false → maybeNearest (b .nearest) ≡ o → Siding m p normal lane row first (widened p normal (record { lane = lane; side = s .side }) o es) (k + 1)
     next o t w =
         record {
           within = omega arith;
           goes =
-              step ∙ rw (one (oriented m (sideOf n r)) refl (not-false (b .there) t) read, w)
-              (ap (λ (j : ℕ). withSides m p normal (drop j (sidesOf row)) (widened p normal o es)) (sym (add-one k)));
+              step ∙ rw (one (oriented m (s .boundary)) refl (not-false (b .there) t) read, w)
+              (ap (λ (j : ℕ). withSides m p normal lane (drop j (sidesOf row)) (widened p normal (record { lane = lane; side = s .side }) o es)) (sym (add-one k)));
         }
 
     module _ (t : not (b .there) ≡ false) where
-      pub siding-past : b .nearest ≡ near.Nothing → Siding m p normal row first es (k + 1)
+      pub siding-past : b .nearest ≡ near.Nothing → Siding m p normal lane row first es (k + 1)
       unfolding widened
       siding-past z = next none t (ap maybeNearest z)
 
-      pub siding-taken : (c : NearestPoint) (es′ : Ends) → b .nearest ≡ near.At c → es′ ≡ widened p normal (some c) es → Siding m p normal row first es′ (k + 1)
+      pub siding-taken : (c : NearestPoint) (es′ : Ends) → b .nearest ≡ near.At c → es′ ≡ widened p normal (record { lane = lane; side = s .side }) (some c) es → Siding m p normal lane row first es′ (k + 1)
       siding-taken c es′ z y = rw y (next (some c) t (ap maybeNearest z))
 
 -- ---- lanes
@@ -162,15 +164,15 @@ module _ (ws : List ℕ) (cs : List Float) (p : Point3) (normal : Point2) (x : �
     unfolding laneOf mapOf
     found = found-record (λ (l : Lane). l .num) laneIn lane-number ws cs 0 (omega arith) x i (sym e ∙ f) ∙ ap some (sym (read .lane (coordsOf cs 0 i)))
 
-    pub lane-sides : (a : Answer Ends) → a ≡ withSides (mapOf ws cs) p normal (sidesOf row) es → a ≡ withLane (mapOf ws cs) p normal x es
+    pub lane-sides : (a : Answer Ends) → a ≡ withSides (mapOf ws cs) p normal x (sidesOf row) es → a ≡ withLane (mapOf ws cs) p normal x es
     unfolding withLane withSides laneOfRow
-    lane-sides a h = h ∙ sym (rw found (both (withSide (mapOf ws cs) p normal (sideOf (row .left) (row .«left_reversed»)) es)))
+    lane-sides a h = h ∙ sym (rw found (both (withSide (mapOf ws cs) p normal (record { lane = x; side = Left }) (sideOf (row .left) (row .«left_reversed»)) es)))
       where
         both : (b : Answer Ends)
-            → (b >>= λ one. withSide (mapOf ws cs) p normal (sideOf (row .right) (row .«right_reversed»)) one)
-            ≡ (b >>= λ one. (withSide (mapOf ws cs) p normal (sideOf (row .right) (row .«right_reversed»)) one >>= λ two. done two))
+            → (b >>= λ one. withSide (mapOf ws cs) p normal (record { lane = x; side = Right }) (sideOf (row .right) (row .«right_reversed»)) one)
+            ≡ (b >>= λ one. (withSide (mapOf ws cs) p normal (record { lane = x; side = Right }) (sideOf (row .right) (row .«right_reversed»)) one >>= λ two. done two))
         both (refused n ds) = refl
-        both (done one) = sym (again (withSide (mapOf ws cs) p normal (sideOf (row .right) (row .«right_reversed»)) one))
+        both (done one) = sym (again (withSide (mapOf ws cs) p normal (record { lane = x; side = Right }) (sideOf (row .right) (row .«right_reversed»)) one))
 
 -- es are the ends after i lanes
 pub record Laning (m : Map) (p : Point3) (normal : Point2) (lanes : List ℕ) (es : Ends) (i : ℕ) : Type 0 where
@@ -213,7 +215,7 @@ module _ (l r : MaybeEnd) where
     section-right q = rw (ql, q)
 
     module _ (b : SectionEnd) (qr : r ≡ e.At b) where
-      pub section-wide : lt milli (a .lateral ⊖ b .lateral) ≡ true → done (a .point ∷ b .point ∷ []) ≡ section (maybeEnd l) (maybeEnd r)
+      pub section-wide : lt milli (a .lateral ⊖ b .lateral) ≡ true → done (record { points = a .point ∷ b .point ∷ []; names = record { left = a .name; right = b .name } }) ≡ section (maybeEnd l) (maybeEnd r)
       unfolding section
       section-wide t = rw (ql, qr, t)
 
@@ -236,7 +238,7 @@ module _ (m : Map) (c : Polyline) (s : Float) (lanes : List ℕ) (o : MaybePoint
       unfolding sectionOn
       no-boundary q = rw (← eo, qp, ← eu, qd, ← en, ← ev, q)
 
-      pub section-is : (x : SectionEnds) (a : Answer Polyline) → v ≡ w.Ends x → a ≡ section (maybeEnd (x .left)) (maybeEnd (x .right)) → a ≡ sectionOn m c s lanes
+      pub section-is : (x : SectionEnds) (a : Answer Section) → v ≡ w.Ends x → a ≡ section (maybeEnd (x .left)) (maybeEnd (x .right)) → a ≡ sectionOn m c s lanes
       unfolding sectionOn
       section-is x a q h = rw (← eo, qp, ← eu, qd, ← en, ← ev, q) h
 

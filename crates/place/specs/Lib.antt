@@ -1,4 +1,5 @@
 pub mod Readable
 pub mod Place
-pub mod Values
 pub mod Steps
+pub mod Values
+pub mod EndNames

@@ -20,6 +20,9 @@ use Rattle.map.specs.Lookup.{laneOf, oriented, unknownIn, open-lookup}
 use Rattle.changes.specs.ChangeSet.{Warning, warning}
 use Rattle.place.specs.declared.Placement.{Placement}
 use Rattle.place.specs.declared.Placement.the-variants.{AtLaneEnd, AtStation, Given}
+use Rattle.place.specs.declared.LaneSide.the-variants.{Left, Right}
+use Rattle.place.specs.declared.EndName.{EndName}
+use Rattle.place.specs.declared.SectionNames.{SectionNames}
 
 -- ---- the list of lanes
 
@@ -60,10 +63,11 @@ laneCenterline m n = elim (laneOf m n) [ none ↦ none | some l ↦ centerlineOf
 
 -- ---- the cross-section
 
--- how far to the left a boundary's nearest point lies, and that point
+-- how far to the left a boundary's nearest point lies, that point, and its name: the lane, and the side of it that the boundary is
 pub record End : Type 0 where
   pub lateral : Float
   pub point : Point3
+  pub name : EndName
 
 pub record Ends : Type 0 where
   pub left : Option End
@@ -75,34 +79,39 @@ outer beats none e = some e
 outer beats (some b) e = some (cond (beats (e .lateral) (b .lateral)) e b)
 
 -- a boundary without points is passed over
-unfoldable pub widened : Point3 → Point2 → Option NearestPoint → Ends → Ends
-widened p normal none es = es
-widened p normal (some n) es =
-    let e : End = record { lateral = dot normal (sub2 (xy (n .point)) (xy p)); point = n .point } in
+unfoldable pub widened : Point3 → Point2 → EndName → Option NearestPoint → Ends → Ends
+widened p normal x none es = es
+widened p normal x (some n) es =
+    let e : End = record { lateral = dot normal (sub2 (xy (n .point)) (xy p)); point = n .point; name = x } in
     record { left = outer (λ x y. lt y x) (es .left) e; right = outer lt (es .right) e }
 
-unfoldable pub withSide : Map → Point3 → Point2 → BoundaryRef → Ends → Answer Ends
-withSide m p normal s es = do
+unfoldable pub withSide : Map → Point3 → Point2 → EndName → BoundaryRef → Ends → Answer Ends
+withSide m p normal x s es = do
   b ← present (oriented m s) 6 (4 ∷ [])
-  done (widened p normal (nearestPoint b (xy p)) es)
+  done (widened p normal x (nearestPoint b (xy p)) es)
 
 unfoldable pub withLane : Map → Point3 → Point2 → ℕ → Ends → Answer Ends
 withLane m p normal n es = do
   l ← present (laneOf m n) 6 (4 ∷ [])
-  one ← withSide m p normal (l .left) es
-  withSide m p normal (l .right) one
+  one ← withSide m p normal (record { lane = n; side = Left }) (l .left) es
+  withSide m p normal (record { lane = n; side = Right }) (l .right) one
 
 unfoldable pub withLanes : Map → Point3 → Point2 → List ℕ → Ends → Answer Ends
 withLanes m p normal [] es = done es
 withLanes m p normal (n ∷ ns) es = withLane m p normal n es >>= λ one. withLanes m p normal ns one
 
+-- the two points, from left to right, and their names
+pub record Section : Type 0 where
+  pub points : Polyline
+  pub names : SectionNames
+
 -- the ends must be more than 1e-3 apart
-unfoldable pub section : Option End → Option End → Answer Polyline
+unfoldable pub section : Option End → Option End → Answer Section
 section none r = refused 6 (5 ∷ [])
 section (some l) none = refused 6 (5 ∷ [])
-section (some l) (some r) = cond (lt milli (l .lateral ⊖ r .lateral)) (done (l .point ∷ r .point ∷ [])) (refused 6 (5 ∷ []))
+section (some l) (some r) = cond (lt milli (l .lateral ⊖ r .lateral)) (done (record { points = l .point ∷ r .point ∷ []; names = record { left = l .name; right = r .name } })) (refused 6 (5 ∷ []))
 
-unfoldable pub crossSection : Map → ℕ → Float → List ℕ → Answer Polyline
+unfoldable pub crossSection : Map → ℕ → Float → List ℕ → Answer Section
 crossSection m reference station lanes = do
   center ← present (laneCenterline m reference) 6 (1 ∷ [])
   p ← present (pointAt center station) 6 (2 ∷ [])
@@ -112,10 +121,11 @@ crossSection m reference station lanes = do
 
 -- ---- the placement
 
--- the points, and a warning where the station was moved
+-- the points, a warning where the station was moved, and the names of both ends where the points are a cross-section
 pub record Placed : Type 0 where
   pub points : Polyline
   pub warnings : List Warning
+  pub ends : Option SectionNames
 
 unfoldable pub clampWarning : ℕ → Float → Float → List Warning
 clampWarning reference station clamped = cond (lt epsilon (absolute (clamped ⊖ station))) (warning 1 (some (entity 1 reference)) ∷ []) []
@@ -124,11 +134,11 @@ unfoldable pub placeAt : Map → List ℕ → ℕ → Float → Float → Answer
 placeAt m lanes reference len station = do
   refuseWhen (not (isFinite station)) 4 (3 ∷ [])
   let clamped = clamp station f0 len
-  xs ← crossSection m reference clamped lanes
-  done (record { points = xs; warnings = clampWarning reference station clamped })
+  x ← crossSection m reference clamped lanes
+  done (record { points = x .points; warnings = clampWarning reference station clamped; ends = some (x .names) })
 
 unfoldable pub placeAs : Placement → List Float → Map → List ℕ → ℕ → Float → Answer Placed
-placeAs Given cs m lanes reference len = checkPolyline cs >> done (record { points = polylineOf cs; warnings = [] })
+placeAs Given cs m lanes reference len = checkPolyline cs >> done (record { points = polylineOf cs; warnings = []; ends = none })
 placeAs (AtLaneEnd offset) cs m lanes reference len = do
   refuseWhen (not (isFinite offset) || lt offset f0) 4 (2 ∷ [])
   placeAt m lanes reference len (len ⊖ offset)

@@ -9,7 +9,8 @@ use Rattle.geometry.specs.declared.Point3.{Point3}
 use Rattle.geometry.specs.Point.{perp}
 use Rattle.geometry.specs.Polyline.{Polyline, pointAt, directionAt}
 use Rattle.map.specs.Record.{BoundaryRef, Map}
-use Rattle.place.specs.Place.{End, Ends, outer, withSide, withLanes, section}
+use Rattle.place.specs.declared.LaneSide.{LaneSide}
+use Rattle.place.specs.Place.{End, Ends, Section, outer, withSide, withLanes, section}
 
 -- the end that lies farther to the left, and the one farther to the right
 abbrev pub outerLeft : Option End → End → Option End
@@ -21,13 +22,18 @@ outerRight = outer lt
 abbrev pub noEnds : Ends
 noEnds = record { left = none; right = none }
 
--- one side after the other
-unfoldable pub withSides : Map → Point3 → Point2 → List BoundaryRef → Ends → Answer Ends
-withSides m p normal [] es = done es
-withSides m p normal (s ∷ ss) es = withSide m p normal s es >>= λ one. withSides m p normal ss one
+-- a side of a lane, and which it is
+pub record NamedSide : Type 0 where
+  pub side : LaneSide
+  pub boundary : BoundaryRef
+
+-- one side of a lane after the other
+unfoldable pub withSides : Map → Point3 → Point2 → ℕ → List NamedSide → Ends → Answer Ends
+withSides m p normal lane [] es = done es
+withSides m p normal lane (s ∷ ss) es = withSide m p normal (record { lane = lane; side = s .side }) (s .boundary) es >>= λ one. withSides m p normal lane ss one
 
 -- the cross-section of a centreline that is there
-unfoldable pub sectionOn : Map → Polyline → Float → List ℕ → Answer Polyline
+unfoldable pub sectionOn : Map → Polyline → Float → List ℕ → Answer Section
 sectionOn m center station lanes = do
   p ← present (pointAt center station) 6 (2 ∷ [])
   dir ← present (directionAt center station) 6 (3 ∷ [])

@@ -22,10 +22,23 @@ pub struct MaybeLine {
     pub line: centerline::Line,
 }
 
-// A side of a lane: a boundary's number, and whether it runs against the lane.
+// Which side of a lane.
+pub enum LaneSide {
+    Left,
+    Right,
+}
+
+// A side of a lane: which one, a boundary's number, and whether it runs against the lane.
 pub struct Side {
+    pub side: LaneSide,
     pub number: u64,
     pub reversed: bool,
+}
+
+// What an end of a cross-section is called: a lane, and the side of it whose boundary has the point.
+pub struct EndName {
+    pub lane: u64,
+    pub side: LaneSide,
 }
 
 // The nearest point of a side, whose boundary may be missing or without points.
@@ -34,10 +47,11 @@ pub struct SideNearest {
     pub nearest: MaybeNearest,
 }
 
-// How far to the left a boundary's nearest point lies, and that point.
+// How far to the left a boundary's nearest point lies, that point, and whose it is.
 pub struct SectionEnd {
     pub lateral: f64,
     pub point: Point3,
+    pub name: EndName,
 }
 
 pub enum MaybeEnd {
@@ -57,6 +71,18 @@ pub enum Walked {
     Missing,
 }
 
+// The names of both ends.
+pub struct SectionNames {
+    pub left: EndName,
+    pub right: EndName,
+}
+
+// Both names, for a line that was drawn across lanes.
+pub enum MaybeEnds {
+    At(SectionNames),
+    Nothing,
+}
+
 // A cross-section, from left to right.
 pub struct CrossSection {
     pub left: Point3,
@@ -64,6 +90,7 @@ pub struct CrossSection {
 }
 
 pub enum MaybeSection {
-    At(CrossSection),
+    // the points, and their names
+    At(CrossSection, SectionNames),
     Refused(Refusal),
 }

@@ -1,9 +1,12 @@
 // The cross-section: the outermost points of the lanes' boundaries.
 use crate::CrossSection;
+use crate::EndName;
+use crate::LaneSide;
 use crate::MaybeEnd;
 use crate::MaybeSection;
 use crate::SectionEnd;
 use crate::SectionEnds;
+use crate::SectionNames;
 use crate::Side;
 use crate::SideNearest;
 use crate::Walked;
@@ -23,7 +26,6 @@ use map::LaneRow;
 use map::lookup;
 use refusal::Refusal;
 ghost use mathlib.Core.Path.{_≡_};
-ghost use mathlib.Core.Bool.{false};
 ghost use mathlib.Core.Option.{some};
 ghost use Prim.Native.Nat.{_<_};
 ghost use lib.ListN.{getD};
@@ -35,7 +37,7 @@ ghost use Rattle.map.specs.Tables.{mapOf};
 ghost use Rattle.place.specs.Place.{widened, withLane, withLanes, section};
 ghost use Rattle.place.specs.Readable.{Readable};
 ghost use Rattle.place.specs.Steps.{outerLeft, outerRight, noEnds, withSides, sectionOn};
-ghost use Rattle.place.specs.Values.{Roomy, sideOf, sidesOf, sideNearest, nearestIn, endOf, maybeEnd, endsOf, walked, sectionAnswer};
+ghost use Rattle.place.specs.Values.{Roomy, sideOf, sideRead, sidesOf, noSide, sideNearest, nearestIn, endOf, maybeEnd, endsOf, walked, sectionAnswer};
 
 // The end that lies farther to the left; on equal values the earlier one stays.
 fn outer_left(best: MaybeEnd, e: SectionEnd) -> MaybeEnd
@@ -64,13 +66,20 @@ fn outer_right(best: MaybeEnd, e: SectionEnd) -> MaybeEnd
 }
 
 // The ends, with a boundary's nearest point taken in.
-fn widened(p: Point3, normal: Point2, n: NearestPoint, ends: SectionEnds) -> SectionEnds
-    ensures { λ r. ⌜ endsOf r ≡ widened p normal (some n) (endsOf ends) ⌝ }
+fn widened(
+    p: Point3,
+    normal: Point2,
+    name: EndName,
+    n: NearestPoint,
+    ends: SectionEnds,
+) -> SectionEnds
+    ensures { λ r. ⌜ endsOf r ≡ widened p normal name (some n) (endsOf ends) ⌝ }
 {
     let q = n.point;
     let e = SectionEnd {
         lateral: dot(normal, sub2(flat(q), flat(p))),
         point: q,
+        name,
     };
     let left = ends.left;
     let right = ends.right;
@@ -124,15 +133,17 @@ fn nearest_side(
 
 fn side_of(row: LaneRow, k: usize) -> Side
     requires { ⌜ k < 2 ⌝ }
-    ensures { λ r. ⌜ sideOf (r .number) (r .reversed) ≡ getD (sidesOf row) k (sideOf 0 false) ⌝ }
+    ensures { λ r. ⌜ sideRead r ≡ getD (sidesOf row) k noSide ⌝ }
 {
     if k == 0 {
         return Side {
+            side: LaneSide::Left,
             number: row.left,
             reversed: row.left_reversed,
         };
     }
     Side {
+        side: LaneSide::Right,
         number: row.right,
         reversed: row.right_reversed,
     }
@@ -144,11 +155,12 @@ fn with_sides(
     coords: &[f64],
     p: Point3,
     normal: Point2,
+    lane: u64,
     row: LaneRow,
     start: SectionEnds,
 ) -> Walked
     requires { ⌜ Readable (now words) (now coords) ⌝ }
-    ensures { λ r. ⌜ walked r ≡ withSides (mapOf (now (words .entry)) (now (coords .entry))) p normal (sidesOf row) (endsOf start) ⌝ }
+    ensures { λ r. ⌜ walked r ≡ withSides (mapOf (now (words .entry)) (now (coords .entry))) p normal lane (sidesOf row) (endsOf start) ⌝ }
 {
     let mut ends = start;
     let mut k = 0;
@@ -163,7 +175,9 @@ fn with_sides(
         let MaybeNearest::At(n) = nearest else {
             continue;
         };
-        ends = widened(p, normal, n, ends);
+        let side = s.side;
+        let name = EndName { lane, side };
+        ends = widened(p, normal, name, n, ends);
     }
     Walked::Ends(ends)
 }
@@ -182,7 +196,7 @@ fn with_lane(
     let Found::At(i) = lookup::find(words, 0, lane) else {
         return Walked::Missing;
     };
-    with_sides(words, coords, p, normal, lookup::lane(words, i), ends)
+    with_sides(words, coords, p, normal, lane, lookup::lane(words, i), ends)
 }
 
 fn with_lanes(words: &[u64], coords: &[f64], p: Point3, normal: Point2, lanes: &[u64]) -> Walked
@@ -219,7 +233,14 @@ fn section(ends: SectionEnds) -> MaybeSection
     if a.lateral - b.lateral > 1e-3 {
         let left = a.point;
         let right = b.point;
-        return MaybeSection::At(CrossSection { left, right });
+        let one = a.name;
+        let two = b.name;
+        let names = SectionNames {
+            left: one,
+            right: two,
+        };
+        let points = CrossSection { left, right };
+        return MaybeSection::At(points, names);
     }
     MaybeSection::Refused(Refusal::NoPlace(5))
 }

@@ -20,6 +20,8 @@ use Rattle.centerline.specs.declared.Line.{Line}
 use Rattle.centerline.specs.Line.{pointsOf}
 use Rattle.map.specs.Record.{Map}
 use Rattle.place.specs.declared.CrossSection.{CrossSection}
+use Rattle.place.specs.declared.MaybeEnds.the-variants as ends
+use Rattle.place.specs.declared.SectionNames.{SectionNames}
 use Rattle.place.specs.declared.MaybeLine.{MaybeLine}
 use Rattle.place.specs.declared.MaybeSection.{MaybeSection}
 use Rattle.place.specs.declared.MaybeSection.the-variants.{At, Refused}
@@ -55,17 +57,17 @@ module _ (m : Map) (center : Polyline) (lanes : List ℕ) (n : ℕ) (len station
   station-bad a t h = h .answer n ∙ rw (← e, not-true b t)
 
   module _ (t : not b ≡ false) (x : Float) (ex : x ≡ clamp station f0 len) (s : MaybeSection) (es : sectionAnswer s ≡ sectionOn m center x lanes) where
-    at-section : placeOn m center lanes n len station ≡ (sectionAnswer s >>= λ xs. done (record { points = xs; warnings = clampWarning n station x }))
+    at-section : placeOn m center lanes n len station ≡ (sectionAnswer s >>= λ y. done (record { points = y .points; warnings = clampWarning n station x; ends = some (y .names) }))
     unfolding placeOn
     at-section = rw (← e, not-false b t, ← ex, ← es)
 
     pub section-refused : (r : Refusal) (a : PlacedLine) → s ≡ Refused r → RefusedWith r a → placedAnswer n a ≡ placeOn m center lanes n len station
     section-refused r a q h = h .answer n ∙ sym (at-section ∙ rw q)
 
-    pub section-placed : (y : CrossSection) (l : Line) (d : Bool) → s ≡ At y → pointsOf l ≡ y .left ∷ y .right ∷ [] → d ≡ lt epsilon (absolute (x ⊖ station))
-        → placedAnswer n (record { checked = c.Fine; line = l; clamped = d }) ≡ placeOn m center lanes n len station
+    pub section-placed : (y : CrossSection) (z : SectionNames) (l : Line) (d : Bool) → s ≡ At y z → pointsOf l ≡ y .left ∷ y .right ∷ [] → d ≡ lt epsilon (absolute (x ⊖ station))
+        → placedAnswer n (record { checked = c.Fine; line = l; clamped = d; ends = ends.At z }) ≡ placeOn m center lanes n len station
     unfolding clampWarning
-    section-placed y l d q h ed = sym (at-section ∙ rw (q, ← h, ← ed))
+    section-placed y z l d q h ed = sym (at-section ∙ rw (q, ← h, ← ed))
 
 -- ---- given points
 
@@ -74,7 +76,7 @@ module _ (cs : List Float) (n : ℕ) (k : Checked) (e : checked k ≡ checkPolyl
   unfolding placeGiven
   given-refused r a q h = h .answer n ∙ rw (← e, q)
 
-  pub given-placed : (l : Line) → k ≡ c.Fine → pointsOf l ≡ polylineOf cs → placedAnswer n (record { checked = c.Fine; line = l; clamped = false }) ≡ placeGiven cs
+  pub given-placed : (l : Line) → k ≡ c.Fine → pointsOf l ≡ polylineOf cs → placedAnswer n (record { checked = c.Fine; line = l; clamped = false; ends = ends.Nothing }) ≡ placeGiven cs
   unfolding placeGiven
   given-placed l q h = rw (← e, q, h)
 

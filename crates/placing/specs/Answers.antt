@@ -17,7 +17,7 @@ use Rattle.map.specs.Tables.{mapOf}
 use Rattle.changes.specs.ChangeSet.{Warning, warning}
 use Rattle.place.specs.Place.{Placed, checkLaneList, checkPolyline, clampWarning}
 use Rattle.place.specs.Steps.{sectionOn}
-use Rattle.place.specs.Values.{Roomy}
+use Rattle.place.specs.Values.{Roomy, maybeEnds}
 use Rattle.placing.specs.declared.Checked.{Checked}
 use Rattle.placing.specs.declared.Checked.the-variants as c
 use Rattle.placing.specs.declared.MaybeNumber.{MaybeNumber}
@@ -44,7 +44,7 @@ pub record LanesChecked (ws lanes : List ℕ) (r : Checked) : Type 0 where
 
 abbrev pub placedAnswer : ℕ → PlacedLine → Answer Placed
 placedAnswer reference a =
-    checked (a .checked) >> done (record { points = pointsOf (a .line); warnings = cond (a .clamped) (warning 1 (some (entity 1 reference)) ∷ []) [] })
+    checked (a .checked) >> done (record { points = pointsOf (a .line); warnings = cond (a .clamped) (warning 1 (some (entity 1 reference)) ∷ []) []; ends = maybeEnds (a .ends) })
 
 pub record RefusedWith (r : Refusal) (a : PlacedLine) : Type 0 where
   pub answer : (reference : ℕ) → placedAnswer reference a ≡ refusedAs r
@@ -57,8 +57,8 @@ unfoldable pub placeOn : Map → Polyline → List ℕ → ℕ → Float → Flo
 placeOn m center lanes reference len station = do
   refuseWhen (not (isFinite station)) 4 (3 ∷ [])
   let clamped = clamp station f0 len
-  xs ← sectionOn m center clamped lanes
-  done (record { points = xs; warnings = clampWarning reference station clamped })
+  x ← sectionOn m center clamped lanes
+  done (record { points = x .points; warnings = clampWarning reference station clamped; ends = some (x .names) })
 
 unfoldable pub placeGiven : List Float → Answer Placed
-placeGiven cs = checkPolyline cs >> done (record { points = polylineOf cs; warnings = [] })
+placeGiven cs = checkPolyline cs >> done (record { points = polylineOf cs; warnings = []; ends = none })

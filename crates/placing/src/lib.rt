@@ -1,5 +1,6 @@
 // A stop line's place: the checks of what is given, and the line or a refusal.
 use centerline::Line;
+use place::MaybeEnds;
 use refusal::Refusal;
 
 pub mod lists; // lists.rt: tests of a whole list
@@ -16,9 +17,10 @@ pub enum MaybeNumber {
     Nothing,
 }
 
-// Where the check is fine: the line, and whether the station was moved.
+// Where the check is fine: the line, whether the station was moved, and the names of both ends of a cross-section.
 pub struct PlacedLine {
     pub checked: Checked,
     pub line: Line,
     pub clamped: bool,
+    pub ends: MaybeEnds,
 }

@@ -8,6 +8,7 @@ use geometry::double::abs;
 use geometry::double::clamp;
 use geometry::double::is_finite;
 use place::CrossSection;
+use place::MaybeEnds;
 use place::MaybeLine;
 use place::MaybeSection;
 use place::Placement;
@@ -37,6 +38,7 @@ pub fn refused_line(r: Refusal) -> PlacedLine
         checked: Checked::Refused(r),
         line: centerline::empty(),
         clamped: false,
+        ends: MaybeEnds::Nothing,
     }
 }
 
@@ -81,10 +83,11 @@ fn place_at(
     let clamped = clamp(station, 0.0, len);
     match cross_section(words, coords, center, clamped, lanes) {
         MaybeSection::Refused(r) => refused_line(r),
-        MaybeSection::At(s) => PlacedLine {
+        MaybeSection::At(s, names) => PlacedLine {
             checked: Checked::Fine,
             line: across(s),
             clamped: moved(station, clamped),
+            ends: MaybeEnds::At(names),
         },
     }
 }
@@ -98,6 +101,7 @@ fn given_line(given: &[f64], reference: u64) -> PlacedLine
             checked: Checked::Fine,
             line: copied(given),
             clamped: false,
+            ends: MaybeEnds::Nothing,
         },
     }
 }

@@ -9,13 +9,13 @@ use Rattle.place.proofs.section.with_sides.Statement.{statement}
 use Rattle.place.proofs.section.with_sides.Tie as tie
 
 abbrev Inv-loop : tie.InvT-loop
-Inv-loop words coords p normal row ends₀ k₀ ends k = Siding (mapOf words coords) p normal row (endsOf ends₀) (endsOf ends) k
+Inv-loop words coords p normal lane row ends₀ k₀ ends k = Siding (mapOf words coords) p normal lane row (endsOf ends₀) (endsOf ends) k
 
 abbrev μ-loop : tie.MeasureT-loop
-μ-loop words coords p normal row ends₀ k₀ ends k = 2 - k
+μ-loop words coords p normal lane row ends₀ k₀ ends k = 2 - k
 
 loop-holds : tie.Need-loop-holds Inv-loop μ-loop
-loop-holds c = siding-start _ _ _ _ _
+loop-holds c = siding-start _ _ _ _ _ _
 
 side-of-requires : tie.Need-side-of-requires Inv-loop μ-loop
 side-of-requires c κs = c .loop-test .taken
@@ -30,7 +30,7 @@ nearest-side-requires : tie.Need-nearest-side-requires Inv-loop μ-loop
 nearest-side-requires c κs = c .before .before .before .before .before .before .pre
 
 returns : tie.Need-returns Inv-loop μ-loop
-returns c = siding-missing _ _ _ _ _ _ _ (c .before .before .before .before .before .before .loop .inv) (c .before .before .before .before .before .loop-test .taken) _ _ (c .before .before .before .before .side-of .ensures) _ (c .before .before .before .flat .ensures) (c .before .before .nearest-side .result) (c .before .before .nearest-side .ensures) (c .if1 .taken)
+returns c = search (needs, siding-missing)
 
 enum-known-nearest : tie.Need-enum-known-nearest Inv-loop μ-loop
 enum-known-nearest c = search needs
@@ -39,22 +39,22 @@ enum-told : tie.Need-enum-told Inv-loop μ-loop
 enum-told c = search needs
 
 loop-less : tie.Need-loop-less Inv-loop μ-loop
-loop-less c = omega (arith, c .before .before .before .before .before .before .before .loop-test .taken)
+loop-less c = omega arith
 
 loop-again : tie.Need-loop-again Inv-loop μ-loop
-loop-again c = siding-past _ _ _ _ _ _ _ (c .before .before .before .before .before .before .before .before .loop .inv) (c .before .before .before .before .before .before .before .loop-test .taken) _ _ (c .before .before .before .before .before .before .side-of .ensures) _ (c .before .before .before .before .before .flat .ensures) (c .before .before .before .before .nearest-side .result) (c .before .before .before .before .nearest-side .ensures) (c .before .before .if1 .left) (c .enum-told .given .1)
+loop-again c = search (needs, siding-past)
 
 widened-requires : tie.Need-widened-requires Inv-loop μ-loop
 widened-requires c κs = search needs
 
 loop-less-2 : tie.Need-loop-less-2 Inv-loop μ-loop
-loop-less-2 c = omega (arith, c .before .before .before .before .before .before .before .before .before .loop-test .taken)
+loop-less-2 c = omega arith
 
 loop-again-2 : tie.Need-loop-again-2 Inv-loop μ-loop
-loop-again-2 c = siding-taken _ _ _ _ _ _ _ (c .before .before .before .before .before .before .before .before .before .before .loop .inv) (c .before .before .before .before .before .before .before .before .before .loop-test .taken) _ _ (c .before .before .before .before .before .before .before .before .side-of .ensures) _ (c .before .before .before .before .before .before .before .flat .ensures) (c .before .before .before .before .before .before .nearest-side .result) (c .before .before .before .before .before .before .nearest-side .ensures) (c .before .before .before .before .if1 .left) _ _ (c .before .before .nearest .given .1) (c .widened .ensures)
+loop-again-2 c = search (needs, siding-taken)
 
 returns-2 : tie.Need-returns-2 Inv-loop μ-loop
-returns-2 c = siding-end _ _ _ _ _ _ _ (c .before .loop .inv) (c .loop-test .left)
+returns-2 c = siding-end _ _ _ _ _ _ _ _ (c .before .loop .inv) (c .loop-test .left)
 
 pub with-sides-spec : {M : Type 1} → statement M
 with-sides-spec =

@@ -40,10 +40,10 @@ moved-requires : tie.Need-moved-requires
 moved-requires c κs = search needs
 
 returns-2 : tie.Need-returns-2
-returns-2 c = (section-refused _ _ _ _ _ _ _ (c .before .before .before .before .before .before .before .is-finite .ensures) (c .before .before .before .before .before .before .if1 .left) _ (c .before .before .before .before .before .clamp .ensures) _ (c .before .before .before .before .cross-section .ensures) _ _ (c .before .before .r .given .1) (c .refused-line2 .ensures), c .refused-line2 .ensures .room)
+returns-2 c = (search (needs, section-refused), search needs)
 
 returns-3 : tie.Need-returns-3
-returns-3 c = (section-placed _ _ _ _ _ _ _ (c .before .before .before .before .before .before .before .before .is-finite .ensures) (c .before .before .before .before .before .before .before .if1 .left) _ (c .before .before .before .before .before .before .clamp .ensures) _ (c .before .before .before .before .before .cross-section .ensures) _ _ _ (c .before .before .before .s .given .1) (c .before .across .ensures) (c .moved .ensures), across-room _ _ _ (c .before .across .ensures) (long-across (c .before)))
+returns-3 c = (search (needs, section-placed), across-room _ _ _ (c .before .across .ensures) (long-across (c .before)))
 
 pub place-at-spec : {M : Type 1} → statement M
 place-at-spec =
