@@ -23,6 +23,7 @@ use Rattle.changes.specs.ChangeFile.{changeFile}
 use Rattle.changes.specs.Running.{State, opening}
 use Rattle.place.specs.declared.Placement.{Placement}
 use Rattle.place.specs.declared.Placement.the-variants.{AtLaneEnd, AtStation, Given}
+use Rattle.place.specs.EndNames.{endsWords}
 use Rattle.edit.specs.declared.StopRule.{StopRule}
 use Rattle.edit.specs.declared.StopRule.the-variants.{StopSign, Marking, NoRule}
 use Rattle.edit.specs.declared.StopLineChoice.{StopLineChoice}
@@ -214,3 +215,63 @@ last-number : sameList (setOf (placed NoRule (AtLaneEnd f0) [] (withNext 1844674
     (1 ∷ 5 ∷ 0xfe ∷ 0xff ∷ 0xff ∷ 0xff ∷ 0xff ∷ 0xff ∷ 0xff ∷ 0xff ∷ 0xff ∷ 1 ∷ 0 ∷ 0 ∷ 1 ∷ 2 ∷ 5 ∷ 0xfe ∷ 0xff ∷ 0xff ∷ 0xff ∷ 0xff ∷ 0xff ∷ 0xff ∷ 0xff ∷ 0xff ∷ 1 ∷ []) ≡ true
 unfolding open-stop-line neg
 last-number = refl
+
+-- ---- the names of a line's ends, in words
+
+-- a refusal's number and details, or the names
+abbrev endsOf : Answer Outcome → Bytes
+endsOf (refused n ds) = n ∷ ds
+endsOf (done o) = endsWords (o .ends)
+
+abbrev endsOn : Map → List ℕ → Bytes
+endsOn m ls = endsOf (addStopLine (record { lanes = ls; placement = AtLaneEnd f0; points = []; rule = NoRule }) (opening m))
+
+abbrev laneBetween : ℕ → ℕ → ℕ → Rattle.map.specs.Record.Lane
+laneBetween n l r = record { num = n; kind = 0; left = record { boundary = l; reversed = false }; right = record { boundary = r; reversed = false }; centerline = none }
+
+-- the map of the crossings with other lanes, and with boundary 5 at y = -6
+abbrev withLanes : List Rattle.map.specs.Record.Lane → Map
+withLanes ls =
+    let m = freshMap (whole 2) in
+    record {
+      next = 7;
+      lanes = ls;
+      boundaries = m .boundaries ++ (record { num = 5; geometry = at3 f0 (neg (whole 6)) f0 ∷ at3 (whole 10) (neg (whole 6)) f0 ∷ [] } ∷ []);
+      stopLines = [];
+      signals = [];
+      crosswalks = [];
+      rules = [];
+    }
+
+-- lane 6 to the right of lane 3; lane 6 with the boundaries of lane 3; lane 3 with its boundaries exchanged
+abbrev beside : Map
+beside = withLanes (laneBetween 3 1 2 ∷ laneBetween 6 2 5 ∷ [])
+
+abbrev doubled : Map
+doubled = withLanes (laneBetween 3 1 2 ∷ laneBetween 6 1 2 ∷ [])
+
+abbrev exchanged : Map
+exchanged = withLanes (laneBetween 3 2 1 ∷ [])
+
+ends-named : sameList
+    (endsOn (freshMap (whole 2)) (3 ∷ []) ++ endsOn beside (3 ∷ 6 ∷ []) ++ endsOn beside (6 ∷ 3 ∷ []) ++ endsOn doubled (6 ∷ 3 ∷ []) ++ endsOn doubled (3 ∷ 6 ∷ []) ++ endsOn exchanged (3 ∷ [])
+    ++ endsOn (freshMap (decimal 5 10000)) (3 ∷ []) ++ endsOn (freshMap (decimal 5 10000)) (3 ∷ 9 ∷ []))
+    ((1 ∷ 3 ∷ 0 ∷ 3 ∷ 1 ∷ []) ++ (1 ∷ 3 ∷ 0 ∷ 6 ∷ 1 ∷ []) ++ (1 ∷ 3 ∷ 0 ∷ 6 ∷ 1 ∷ []) ++ (1 ∷ 6 ∷ 0 ∷ 6 ∷ 1 ∷ []) ++ (1 ∷ 3 ∷ 0 ∷ 3 ∷ 1 ∷ []) ++ (1 ∷ 3 ∷ 1 ∷ 3 ∷ 0 ∷ [])
+    ++ (6 ∷ 5 ∷ []) ++ (2 ∷ 1 ∷ 9 ∷ [])) ≡ true
+unfolding open-stop-line neg
+ends-named = refl
+
+abbrev lightWith : StopLineChoice → List Float → State → Answer Outcome
+lightWith c cs = addTrafficSignal (record { lanes = 3 ∷ []; choice = c; points = cs; housing = none; height = none; kind = Vehicle; bulbs = none; group = none })
+
+abbrev none-told : Bytes
+none-told = endsWords none
+
+-- given points; a light that draws, at the end and at a station; one on a line found; on a named line; a new line of given points; no line; links
+ends-told : sameList
+    (endsOf (placed StopSign Given (f0 ∷ f0 ∷ f0 ∷ f1 ∷ f0 ∷ f0 ∷ []) start) ++ endsOf (lightWith Automatic [] start) ++ endsOf (lightWith (New (AtLaneEnd f1)) [] start) ++ endsOf (lightWith (New (AtStation f1)) [] start)
+    ++ endsOf p2 ++ endsOf (lightWith (Existing 4) [] (after start p1)) ++ endsOf (lightWith (New Given) (f0 ∷ f0 ∷ f0 ∷ f1 ∷ f0 ∷ f0 ∷ []) start) ++ endsOf (lightWith NoLine [] start)
+    ++ endsOf (linked [] (4 ∷ []) 7 (after start p2)))
+    (none-told ++ (1 ∷ 3 ∷ 0 ∷ 3 ∷ 1 ∷ []) ++ (1 ∷ 3 ∷ 0 ∷ 3 ∷ 1 ∷ []) ++ (1 ∷ 3 ∷ 0 ∷ 3 ∷ 1 ∷ []) ++ none-told ++ none-told ++ none-told ++ none-told ++ none-told) ≡ true
+unfolding open-stop-line open-light open-links neg
+ends-told = refl

@@ -11,6 +11,7 @@ use Rattle.map.specs.Tables.{mapOf, isMapTables}
 use Rattle.changes.specs.declared.Tally.{Tally}
 use Rattle.changes.specs.Layout.{setWords, changeSetOf}
 use Rattle.changes.specs.Running.{State}
+use Rattle.place.specs.Values.{maybeEnds}
 use Rattle.edit.specs.declared.Called.{Called}
 use Rattle.edit.specs.declared.Called.the-variants as c
 use Rattle.edit.specs.Edit.{Outcome}
@@ -35,11 +36,11 @@ lentCall call l = do
 
 -- what the answer of the code stands for, with the memory as it is left
 abbrev pub answered : Called → Lent → Answer Outcome
-answered (c.Done n) l = done (record { state = stateOf l; id = n; changes = changeSetOf (l .set) })
+answered (c.Done n es) l = done (record { state = stateOf l; id = n; changes = changeSetOf (l .set); ends = maybeEnds es })
 answered (c.Refused r) l = refusedAs r
 
 abbrev pub isRefused : Called → Bool
-isRefused (c.Done n) = false
+isRefused (c.Done n es) = false
 isRefused (c.Refused r) = true
 
 -- the whole outcome of a call: its answer and what it leaves; a refusal leaves everything as it was

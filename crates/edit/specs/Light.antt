@@ -28,6 +28,7 @@ use Rattle.map.specs.Rows.{fresh, withLine, withSignal, withRule, withRules, ru
 use Rattle.changes.specs.ChangeSet.{Warning, warning}
 use Rattle.changes.specs.Running.{State}
 use Rattle.place.specs.declared.Placement.{Placement}
+use Rattle.place.specs.declared.SectionNames.{SectionNames}
 use Rattle.place.specs.declared.Placement.the-variants.{AtLaneEnd}
 use Rattle.edit.specs.declared.StopLineChoice.{StopLineChoice}
 use Rattle.edit.specs.declared.StopLineChoice.the-variants.{Automatic, Existing, New, NoLine}
@@ -125,7 +126,8 @@ anchorFor m lanes (use-line s) = do
 anchorFor m lanes (draw p) = done (p .points)
 anchorFor m lanes use-none =
     let reference = getD lanes 0 0 in
-    crossSection m reference (elim (laneCenterline m reference) [ none ↦ f0 | some c ↦ polylineLength c ]) lanes
+    crossSection m reference (elim (laneCenterline m reference) [ none ↦ f0 | some c ↦ polylineLength c ]) lanes >>= λ x.
+    done (x .points)
 
 -- ---- the signal
 
@@ -167,10 +169,10 @@ synthesizeSignalGeometry m reference anchor = do
 
 -- the points as given, or made up with a warning
 unfoldable pub housingFor : Map → ℕ → Polyline → Option (List Float) → Answer Placed
-housingFor m reference anchor (some cs) = done (record { points = polylineOf cs; warnings = [] })
+housingFor m reference anchor (some cs) = done (record { points = polylineOf cs; warnings = []; ends = none })
 housingFor m reference anchor none = do
   xs ← synthesizeSignalGeometry m reference anchor
-  done (record { points = xs; warnings = warning 3 none ∷ [] })
+  done (record { points = xs; warnings = warning 3 none ∷ []; ends = none })
 
 -- green, yellow and red; a pedestrian's light has no yellow
 unfoldable pub colors : SignalKind → List BulbColor
@@ -206,6 +208,12 @@ unfoldable pub planPoints : Plan → Polyline
 planPoints (use-line s) = []
 planPoints use-none = []
 planPoints (draw p) = p .points
+
+-- a line that stood, and no line, have no ends to name
+unfoldable pub planEnds : Plan → Option SectionNames
+planEnds (use-line s) = none
+planEnds use-none = none
+planEnds (draw p) = p .ends
 
 unfoldable pub signalDrawn : Drawing → Signal → List Warning → Drawing
 signalDrawn d s ws =
@@ -370,6 +378,7 @@ lightDraft a m p =
     record {
       map = four .map;
       id = n;
+      ends = planEnds (p .plan);
       stored = planPoints (p .plan) ++ p .housing .points ++ positions (bulbsOf a (p .housing .points));
       changes = record { created = four .created; modified = four .modified; deleted = four .deleted; warnings = four .warnings };
     }
@@ -383,5 +392,5 @@ unfoldable pub addTrafficSignal : NewTrafficSignal → State → Answer Outcome
 addTrafficSignal a = call (lightEdit a)
 
 unfoldable pub open-light : Unit {0}
-unfolding open-place open-edit lightLine groupLine differs checkChoice stopsAt existingStopLine drawPlan autoPlan planFor anchorFor housingAt stationOf synthesizeSignalGeometry housingFor colors defaultBulb defaultBulbs lineDrawn planPoints signalDrawn extended joinedLanes grouped isStopAt liftOf lift lifted easedRef goneRef liftWarning liftAll badHeight checkHousing groupRule storedBulb bulbsOr lightPlan heightOf bulbsOf newSignal lightDraft lightEdit addTrafficSignal
+unfolding open-place open-edit lightLine groupLine differs checkChoice stopsAt existingStopLine drawPlan autoPlan planFor anchorFor housingAt stationOf synthesizeSignalGeometry housingFor colors defaultBulb defaultBulbs lineDrawn planPoints planEnds signalDrawn extended joinedLanes grouped isStopAt liftOf lift lifted easedRef goneRef liftWarning liftAll badHeight checkHousing groupRule storedBulb bulbsOr lightPlan heightOf bulbsOf newSignal lightDraft lightEdit addTrafficSignal
 open-light = tt

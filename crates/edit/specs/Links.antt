@@ -95,7 +95,7 @@ linksEdit a m = do
   refuseFound (unknownIn (λ l. l .num) (m .stopLines) (b .stopLines)) 5
   w ← relinked m b (r .body)
   let s = ruleWith r w (b .lanes) (b .crosswalks)
-  done (record { map = withRules m (replaced (λ x. x .num) s (m .rules)); id = r .num; stored = []; changes = linkChanges (sameLinks r s) (r .num) })
+  done (record { map = withRules m (replaced (λ x. x .num) s (m .rules)); id = r .num; stored = []; ends = none; changes = linkChanges (sameLinks r s) (r .num) })
 
 unfoldable pub setRegulatoryLinks : RegulatoryLinks → State → Answer Outcome
 setRegulatoryLinks a = call (linksEdit a)

@@ -33,12 +33,14 @@ lineDraft a d none = record {
   map = d .map;
   id = d .id;
   stored = d .stored;
+  ends = d .ends;
   changes = record { created = d .changes .created; modified = []; deleted = []; warnings = d .changes .warnings ++ (warning 2 (some (entity 5 (d .id))) ∷ []) };
 }
 lineDraft a d (some w) = record {
   map = withRule (d .map) w (a .lanes);
   id = d .id;
   stored = d .stored;
+  ends = d .ends;
   changes = record { created = d .changes .created ++ (entity 8 (fresh (d .map)) ∷ []); modified = []; deleted = []; warnings = d .changes .warnings };
 }
 
@@ -51,6 +53,7 @@ stopLineEdit a m = do
     map = withLine m (p .points);
     id = n;
     stored = p .points;
+    ends = p .ends;
     changes = record { created = entity 5 n ∷ []; modified = []; deleted = []; warnings = p .warnings };
   }
   done (lineDraft a drawn (ruleAt (a .rule) n))

@@ -55,9 +55,9 @@ pub struct SignalRequest {
     pub group: MaybeNumber,
 }
 
-// The number of the record that was made or linked, or the refusal.
+// The number of the record that was made or linked and the names of a drawn line's ends, or the refusal.
 pub enum Called {
-    Done(u64),
+    Done(u64, place::MaybeEnds),
     Refused(Refusal),
 }
 

@@ -27,6 +27,8 @@ use Rattle.changes.specs.Running.{State, foldOk, foldFits}
 use Rattle.edit.specs.declared.Called.{Called}
 use Rattle.edit.specs.declared.Called.the-variants as c
 use Rattle.edit.specs.Edit.{Draft, Outcome, finish, call}
+use Rattle.place.specs.declared.MaybeEnds.{MaybeEnds}
+use Rattle.place.specs.Values.{maybeEnds}
 use Rattle.edit.specs.Lent.{Lent, stateOf, lentCall, answered, isRefused, CallLeft}
 use Rattle.finishing.proofs.FreshLaws.{FoldBelow, fold-below}
 use Rattle.finishing.specs.Finish.{lentChecks, planned, settled, steps}
@@ -36,7 +38,7 @@ abbrev pub outcomeOf : State → Draft → Outcome
 outcomeOf s d =
     let set = normalize (d .changes) in
     let fold = foldStep (s .fold) set in
-    record { state = record { map = d .map; fold = fold; tally = tallyOf fold }; id = d .id; changes = set }
+    record { state = record { map = d .map; fold = fold; tally = tallyOf fold }; id = d .id; changes = set; ends = d .ends }
 
 finish-is : (s : State) (d : Draft) → finish s d
     ≡ (refuseWhen (not (every pointOnMap (d .stored))) 9 [] >> (refuseWhen (not (withinCeilings (d .map))) 10 []
@@ -149,11 +151,11 @@ module _ (edit : Map → Answer Draft) (l : Lent) where
       → CallLeft (call edit) l r (record { words = l .words; coords = l .coords; fold = f′; tally = u; set = l .set })
   call-refused x h f′ ef r u e = rw (ef, e .0, e .1) (record { answer = sym (call-is ∙ rw h); kept = λ _. refl })
 
-  pub call-done : (d : Draft) → steps edit l ≡ done d → (new : Lent) (n : ℕ) → mapOf (new .words) (new .coords) ≡ d .map
+  pub call-done : (d : Draft) → steps edit l ≡ done d → (new : Lent) (n : ℕ) (es : MaybeEnds) → mapOf (new .words) (new .coords) ≡ d .map
       → changeSetOf (new .fold) ≡ foldStep (changeSetOf (l .fold)) (normalize (d .changes)) → new .tally ≡ tallyOf (changeSetOf (new .fold))
-      → changeSetOf (new .set) ≡ normalize (d .changes) → n ≡ d .id → CallLeft (call edit) l (c.Done n) new
-  call-done d h new n a b t s i = record {
-    answer = rw (a, t, b, s, i) (sym (call-is ∙ rw h));
+      → changeSetOf (new .set) ≡ normalize (d .changes) → n ≡ d .id → maybeEnds es ≡ d .ends → CallLeft (call edit) l (c.Done n es) new
+  call-done d h new n es a b t s i w = record {
+    answer = rw (a, t, b, s, i, w) (sym (call-is ∙ rw h));
     kept = λ q. absurd (let y : _≡_ {A = ℕ} 0 1 = cc in omega arith);
   }
 

@@ -17,6 +17,8 @@ use Rattle.changes.specs.Running.{foldFits}
 use Rattle.placing.specs.declared.Checked.{Checked}
 use Rattle.placing.specs.declared.Checked.the-variants as k
 use Rattle.placing.specs.Answers.{checked}
+use Rattle.place.specs.declared.MaybeEnds.{MaybeEnds}
+use Rattle.place.specs.Values.{maybeEnds}
 use Rattle.edit.specs.declared.Called.{Called}
 use Rattle.edit.specs.declared.Called.the-variants as c
 use Rattle.edit.specs.Edit.{Draft}
@@ -59,10 +61,10 @@ module _ (l : Lent) (fine : lentChecks l ≡ done tt) (d : Draft) (g : ChangeSet
       pub takes : foldFits (foldStep (changeSetOf (l .fold)) (normalize (changeSetOf t))) ≡ true
       takes = rw et (both-passed .0)
 
-      pub ends-done : (f′ t′ : List ℕ) → TakenIn (l .fold) t f′ t′ → (ws : List ℕ) (cs : List Float) (tally : Tally) (n : ℕ) → mapOf ws cs ≡ d .map → tally ≡ tallyOf (changeSetOf f′)
-          → n ≡ d .id → CallEnds l d (c.Done n) (record { words = ws; coords = cs; fold = f′; tally = tally; set = t′ })
-      ends-done f′ t′ w ws cs tally n a b i = record {
+      pub ends-done : (f′ t′ : List ℕ) → TakenIn (l .fold) t f′ t′ → (ws : List ℕ) (cs : List Float) (tally : Tally) (n : ℕ) (es : MaybeEnds) → mapOf ws cs ≡ d .map → tally ≡ tallyOf (changeSetOf f′)
+          → n ≡ d .id → maybeEnds es ≡ d .ends → CallEnds l d (c.Done n es) (record { words = ws; coords = cs; fold = f′; tally = tally; set = t′ })
+      ends-done f′ t′ w ws cs tally n es a b i h = record {
         left = λ edit plan.
-            call-done edit l d (carried-out edit l fine d plan nothing-refuses) (record { words = ws; coords = cs; fold = f′; tally = tally; set = t′ }) n a
-            (w .fold ∙ ap (λ (x : ChangeSet). foldStep (changeSetOf (l .fold)) (normalize x)) et) b (w .set ∙ ap normalize et) i;
+            call-done edit l d (carried-out edit l fine d plan nothing-refuses) (record { words = ws; coords = cs; fold = f′; tally = tally; set = t′ }) n es a
+            (w .fold ∙ ap (λ (x : ChangeSet). foldStep (changeSetOf (l .fold)) (normalize x)) et) b (w .set ∙ ap normalize et) i h;
       }

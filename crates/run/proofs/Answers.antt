@@ -1,4 +1,4 @@
--- What an answer that is no refusal says of the steps that led to it.
+-- What an accepted call says of the numbers that it names, and of the parts of a shape.
 use mathlib.Core.Path.{_≡_, refl, sym, ap, subst}
 use mathlib.Core.Bool.{Bool, true, false, _&&_, cond}
 use mathlib.Core.Option.{Option, none, some}
@@ -7,7 +7,7 @@ use Prim.Native.Nat.{ℕ, suc, _<_, _≤_, _^_}
 use lib.Dec.{ltb}
 use native.Mathlib.Omega.{arith}
 use borrow.Author.Tests.{ltb-true, lt-ltb, le-leb}
-use Rattle.refusal.specs.Answer.{Answer, refused, done, _>>=_, _>>_, refuseWhen, present}
+use Rattle.refusal.specs.Answer.{done}
 use Rattle.rows.specs.Lists.{every, firstOf, orElse, noEntries}
 use Rattle.rows.specs.Table.{holds, rising}
 use Rattle.rows.proofs.Bools.{parts, and-i, and-no}
@@ -19,46 +19,9 @@ use Rattle.map.specs.Record.{Lane, Map}
 use Rattle.map.proofs.Presence.{held-below}
 use Rattle.map.proofs.ByKind.{up₁}
 use Rattle.place.specs.Place.{refuseFound, checkLaneList}
+use Rattle.place.proofs.Answers.{never, next, past}
 use Rattle.run.proofs.Shape.{Fresh}
 use Rattle.run.proofs.Told.{goneAt, touchedAt, kept-not-gone, kept-untouched}
-
-pub never : {A B : Type 0} {n : ℕ} {ds : List ℕ} {b : A} → _≡_ {A = Answer A} (refused n ds) (done b) → B
-never e = let z : _≡_ {A = ℕ} 0 1 = cc in absurd (omega arith)
-
-pub done-is : {A : Type 0} {a b : A} → _≡_ {A = Answer A} (done a) (done b) → a ≡ b
-done-is e = cc
-
-module _ {A B : Type 0} where
-  pub record Went (x : Answer A) (f : A → Answer B) (b : B) : Type 0 where
-    pub value : A
-    pub first : x ≡ done value
-    pub rest : f value ≡ done b
-
-  pub went : (x : Answer A) (f : A → Answer B) (b : B) → (x >>= f) ≡ done b → Went x f b
-  went (refused n ds) f b e = never e
-  went (done a) f b e = record { value = a; first = refl; rest = e }
-
-  pub record Next (x : Answer A) (y : Answer B) (b : B) : Type 0 where
-    pub value : A
-    pub first : x ≡ done value
-    pub rest : y ≡ done b
-
-  pub next : (x : Answer A) (y : Answer B) (b : B) → (x >> y) ≡ done b → Next x y b
-  next (refused n ds) y b e = never e
-  next (done a) y b e = record { value = a; first = refl; rest = e }
-
--- past a test
-pub record Past {B : Type 0} (t : Bool) (y : Answer B) (b : B) : Type 0 where
-  pub test : t ≡ false
-  pub rest : y ≡ done b
-
-pub past : {B : Type 0} (t : Bool) (n : ℕ) (ds : List ℕ) (y : Answer B) (b : B) → (refuseWhen t n ds >> y) ≡ done b → Past t y b
-past true n ds y b e = never e
-past false n ds y b e = record { test = refl; rest = e }
-
-pub there : {A : Type 0} (o : Option A) (n : ℕ) (ds : List ℕ) (a : A) → present o n ds ≡ done a → o ≡ some a
-there none n ds a e = never e
-there (some x) n ds a e = cc
 
 pub unfound : {u : Unit {0}} (o : Option ℕ) (k : ℕ) → refuseFound o k ≡ done u → o ≡ none
 unfound none k e = refl

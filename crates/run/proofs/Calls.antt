@@ -1,5 +1,5 @@
 -- One call: what it says of the draft that it finished, and from that the law of one call, on any state.
-use mathlib.Core.Path.{_≡_, refl, sym, ap, _∙_}
+use mathlib.Core.Path.{_≡_, refl, sym, ap, _∙_, subst}
 use mathlib.Core.Bool.{Bool, true, false, not, _&&_, _||_}
 use mathlib.Core.Option.{Option, none, some}
 use mathlib.Core.List.{List, [], append-nil}
@@ -20,13 +20,15 @@ use Rattle.changes.specs.ChangeFile.{listsOk, isSet}
 use Rattle.changes.specs.ChangeSet.{ChangeSet, normalize, tallyOf}
 use Rattle.changes.specs.Running.{State, foldOk, foldCall}
 use Rattle.changes.proofs.Entries.{set-fits}
+use Rattle.place.proofs.Answers.{went, past}
 use Rattle.edit.specs.Edit.{Draft, Outcome, call}
 use Rattle.edit.specs.Light.{lightEdit, addTrafficSignal}
 use Rattle.edit.specs.Links.{linksEdit, setRegulatoryLinks}
 use Rattle.edit.specs.StopLine.{stopLineEdit, addStopLine}
 use Rattle.run.specs.Law.{alters, wellHanded, liftedBy, clearsLine, sameForm, differ, names, leaves, handed, passes, Accepted, CallLaw}
+use Rattle.run.specs.LineEnds.{toldBy, endsAnswered}
 use Rattle.run.specs.Run.{Edit, line, signal, links, runOne, stateAfter, setsAfter}
-use Rattle.run.proofs.Answers.{went, past}
+use Rattle.run.proofs.LineEnds.{drafts, same-told, line-ends, light-ends, links-ends}
 use Rattle.run.proofs.Counts.{named-count, named-lists, Named}
 use Rattle.run.proofs.Fold.{StepLaw, finished, Finished, set-named}
 use Rattle.run.proofs.LightLine.{light-clears}
@@ -67,6 +69,11 @@ unfolding liftedBy
 edit-lifts (line a) m d q = refl
 edit-lifts (signal a) m d q = light-clears a m d q
 edit-lifts (links a) m d q = refl
+
+edit-ends : (e : Edit) (m : Map) (d : Draft) → edited e m ≡ done d → endsAnswered e m (drafts d)
+edit-ends (line a) m d q = line-ends a m d q
+edit-ends (signal a) m d q = light-ends a m d q
+edit-ends (links a) m d q = links-ends a m d q
 
 -- ---- the draft of an accepted call
 
@@ -163,6 +170,9 @@ module _ (e : Edit) (s : State) (o : Outcome) (x : Ended e s o) where
   pub call-passes : passes (o .state) ≡ true
   call-passes = rw (x .end .state) (passes-again s (x .fold) (x .map) (x .draft .map) drawn-map (x .step .later) _ (normalize (x .draft .changes)) drawn-set (x .end .fits))
 
+  call-ends : endsAnswered e (s .map) (toldBy o)
+  call-ends = subst (endsAnswered e (s .map)) (same-told (sym (x .end .ends)) (rw (x .end .state))) (edit-ends e (s .map) (x .draft) (x .drawn))
+
   is-accepted : Accepted e s o
   is-accepted = record {
     set = call-set;
@@ -175,6 +185,7 @@ module _ (e : Edit) (s : State) (o : Outcome) (x : Ended e s o) where
     count = named-count (s .map) (o .state .map) _ (o .changes) (x .map) map-left set-left;
     rise = call-rise .rise;
     lights = call-lights;
+    ends = call-ends;
     valid = call-passes;
   }
 

@@ -187,13 +187,14 @@ pub record Finished (s : State) (d : Draft) (o : Outcome) : Type 0 where
   pub spent : d .map .next < 2 ^ 64
   pub state : o .state ≡ record { map = d .map; fold = foldStep (s .fold) (normalize (d .changes)); tally = tallyOf (foldStep (s .fold) (normalize (d .changes))) }
   pub changes : o .changes ≡ normalize (d .changes)
+  pub ends : o .ends ≡ d .ends
 
 pub finished : (s : State) (d : Draft) (o : Outcome) → finish s d ≡ done o → Finished s d o
 unfolding finish
 finished s d o e = go (every pointOnMap (d .stored)) (withinCeilings (d .map)) (foldFits (foldStep (s .fold) (normalize (d .changes)))) (leb (2 ^ 64) (d .map .next)) refl refl refl refl e
   where
     end : Outcome
-    end = record { state = record { map = d .map; fold = foldStep (s .fold) (normalize (d .changes)); tally = tallyOf (foldStep (s .fold) (normalize (d .changes))) }; id = d .id; changes = normalize (d .changes) }
+    end = record { state = record { map = d .map; fold = foldStep (s .fold) (normalize (d .changes)); tally = tallyOf (foldStep (s .fold) (normalize (d .changes))) }; id = d .id; changes = normalize (d .changes); ends = d .ends }
 
     go : (p q r t : Bool) → every pointOnMap (d .stored) ≡ p → withinCeilings (d .map) ≡ q → foldFits (foldStep (s .fold) (normalize (d .changes))) ≡ r → leb (2 ^ 64) (d .map .next) ≡ t
         → (refuseWhen (not p) 9 [] >> (refuseWhen (not (q && r)) 10 [] >> (refuseWhen t 11 [] >> done end))) ≡ done o → Finished s d o
@@ -203,7 +204,7 @@ finished s d o e = go (every pointOnMap (d .stored)) (withinCeilings (d .map)) (
     go true true true true pe qe re te e = let z : _≡_ {A = ℕ} 0 1 = cc in absurd (omega arith)
     go true true true false pe qe re te e =
         let q : o ≡ end = cc in
-        record { stored = pe; ceilings = qe; fits = re; spent = leb-false (2 ^ 64) (d .map .next) te; state = ap (λ (x : Outcome). x .state) q; changes = ap (λ (x : Outcome). x .changes) q }
+        record { stored = pe; ceilings = qe; fits = re; spent = leb-false (2 ^ 64) (d .map .next) te; state = ap (λ (x : Outcome). x .state) q; changes = ap (λ (x : Outcome). x .changes) q; ends = ap (λ (x : Outcome). x .ends) q }
 
 pub kept-step : (m : Map) (alt : EntityRef → Bool) (s : State) (d : Draft) (o : Outcome) → Kept m alt s → StepLaw (s .map) d → Finished s d o
     → Kept m (λ a. alt a || alters (s .map) (o .state .map) a) (o .state)

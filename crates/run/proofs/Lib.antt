@@ -12,5 +12,6 @@ mod LightStep
 mod LightLine
 mod Refusals
 mod Passing
+mod LineEnds
 pub mod Calls
 pub mod Runs

@@ -22,10 +22,10 @@ use Rattle.edit.specs.Light.{stopsAt, existingStopLine, lightLine, groupLine, P
 use Rattle.place.specs.Place.{checkLaneList, placeStopLine}
 use Rattle.place.specs.declared.Placement.{Placement}
 use Rattle.place.specs.declared.Placement.the-variants.{AtLaneEnd}
+use Rattle.place.proofs.Answers.{never, done-is, went, past, there}
 use Rattle.edit.specs.declared.StopLineChoice.{StopLineChoice}
 use Rattle.edit.specs.declared.StopLineChoice.the-variants.{Existing, New, NoLine, Automatic}
 use Rattle.run.specs.Law.{ownLine, orNext, lineOnLane, lineOfRule, groupsLine, firstLanesLine, foundOr, chosenLine, lightsLine, meets, haltLine, isLine, noStop}
-use Rattle.run.proofs.Answers.{never, done-is, went, past, there}
 use Rattle.run.proofs.Lifts.{liftBy, lift-clears}
 use Rattle.run.proofs.LightStep.{lifts-map, plans}
 

@@ -42,15 +42,17 @@ use Rattle.changes.specs.ChangeSet.{Warning}
 use Rattle.changes.proofs.Entries.{Warned, none-warned, both-warned, more-warned, one-warned, bare-warned}
 use Rattle.changes.proofs.Refs.{listed-append, same-as}
 use Rattle.edit.specs.Edit.{Draft}
-use Rattle.edit.specs.Light.{liftWarning, housingFor, synthesizeSignalGeometry, existingStopLine, autoPlan, drawPlan, lightLine, groupLine, groupRule, badHeight, defaultHeight, checkHousing, checkChoice, planFor, anchorFor, lightPlan, lightDraft, lightEdit, lineDrawn, planPoints, use-line, use-none, draw, storedBulb, bulbsOr, defaultBulbs, defaultBulb, colors, heightOf, NewTrafficSignal, Plan, Planned, Drawing, isStopAt, kept, lift, easedRef, goneRef, liftAll, signalDrawn, grouped, extended, joinedLanes, newSignal, bulbsOf, positions, Lift, eased, gone}
+use Rattle.edit.specs.Light.{liftWarning, housingFor, synthesizeSignalGeometry, existingStopLine, autoPlan, drawPlan, lightLine, groupLine, groupRule, badHeight, defaultHeight, checkHousing, checkChoice, planFor, anchorFor, lightPlan, lightDraft, lightEdit, lineDrawn, planPoints, planEnds, use-line, use-none, draw, storedBulb, bulbsOr, defaultBulbs, defaultBulb, colors, heightOf, NewTrafficSignal, Plan, Planned, Drawing, isStopAt, kept, lift, easedRef, goneRef, liftAll, signalDrawn, grouped, extended, joinedLanes, newSignal, bulbsOf, positions, Lift, eased, gone}
+use Rattle.place.specs.declared.SectionNames.{SectionNames}
 use Rattle.place.specs.Place.{Placed, checkLaneList, placeStopLine}
 use Rattle.place.specs.declared.Placement.{Placement}
 use Rattle.place.specs.declared.Placement.the-variants.{AtLaneEnd}
+use Rattle.place.proofs.Answers.{never, done-is, went, next, past, there}
 use Rattle.edit.specs.declared.SignalBulb.{SignalBulb}
 use Rattle.edit.specs.declared.StopLineChoice.{StopLineChoice}
 use Rattle.edit.specs.declared.StopLineChoice.the-variants.{Existing, New, NoLine, Automatic}
 use Rattle.run.specs.Law.{differ}
-use Rattle.run.proofs.Answers.{never, done-is, went, next, past, there, lanes-known, below-fits, no-fresh, is-fresh, no-ok, is-ok, none-touched, rise-one, rise-two, rise-three}
+use Rattle.run.proofs.Answers.{lanes-known, below-fits, no-fresh, is-fresh, no-ok, is-ok, none-touched, rise-one, rise-two, rise-three}
 use Rattle.run.proofs.Lifts.{liftBy, lift-all, changed-append, changed-twice, isEased, isGone, listed-eased, listed-gone, lift-touched, lift-gone, lift-same, lift-ok, keep-every}
 use Rattle.run.proofs.PlaceWarned.{first-fits, place-warned}
 use Rattle.run.proofs.Rules.{every-true, body-ok, body-within, rule-made, put, put-all, put-same, put-touched, rule-split}
@@ -592,11 +594,12 @@ module _ (m : Map) (ok : isMap m ≡ true) (a : NewTrafficSignal) (known : every
         go true e = lift-ok l (a .lanes) (moreRule r) y more e
         go false e = lift-ok l (a .lanes) x y q e
 
-    abbrev draft : Option Rule → Draft
-    draft g = record {
+    abbrev draft : Option SectionNames → Option Rule → Draft
+    draft es g = record {
       map = four g .map;
       id = n;
       stored = newPoints o ++ xs ++ positions (bulbsOf a xs);
+      ends = es;
       changes = record { created = four g .created; modified = four g .modified; deleted = four g .deleted; warnings = four g .warnings };
     }
 
@@ -635,8 +638,8 @@ module _ (m : Map) (ok : isMap m ≡ true) (a : NewTrafficSignal) (known : every
         let u = f x refl in let p = u .0 in let q = u .1 in let v = four-next (some r) in
         rise-two (m .next) (four (some r) .map .next) (x .num) n p (omega arith) (omega arith)
 
-    light-shape : (g : Option Rule) → Group m g → Shape m (draft g)
-    light-shape g i = record {
+    light-shape : (es : Option SectionNames) (g : Option Rule) → Group m g → Shape m (draft es g)
+    light-shape es g i = record {
       line = line′ m o;
       signal = some sig;
       rule = rule′ g;
@@ -761,18 +764,18 @@ plan-warned m lanes g Automatic cs p h e = go (orElse g (existingStopLine m (get
     go (some s) e = unfold autoPlan in let z : _≡_ {A = ℕ} 0 1 = cc in absurd (omega arith)
 
 by-plan : (a : NewTrafficSignal) (m : Map) → isMap m ≡ true → (pl : Plan) (housing : Placed) → Plans a m (record { plan = pl; housing = housing }) → Shape m (lightDraft a m (record { plan = pl; housing = housing }))
-unfolding lightDraft lineDrawn planPoints
+unfolding lightDraft lineDrawn planPoints planEnds
 by-plan a m ok (use-line s) housing p =
     light-shape m ok a (lanes-known m ok (a .lanes) (p .unit) (p .lanes)) (housing .points) (housing .warnings) none (begun m none (some s) []) (begun-is m none (some s) []) none-warned (housing-warned m (getD (a .lanes) 0 0) (p .anchor) (a .housing) housing (p .housing-is))
-    (λ h. unfold ifThere in small-fits s (m .next) (anchored m ok (a .lanes) s (p .anchor) (p .anchor-is)) h) (height-is a (p .height)) (groupRule m (a .group)) (group-is m (a .group) (p .own) (p .own-is))
+    (λ h. unfold ifThere in small-fits s (m .next) (anchored m ok (a .lanes) s (p .anchor) (p .anchor-is)) h) (height-is a (p .height)) none (groupRule m (a .group)) (group-is m (a .group) (p .own) (p .own-is))
 by-plan a m ok use-none housing p =
     light-shape m ok a (lanes-known m ok (a .lanes) (p .unit) (p .lanes)) (housing .points) (housing .warnings) none (begun m none none []) (begun-is m none none []) none-warned (housing-warned m (getD (a .lanes) 0 0) (p .anchor) (a .housing) housing (p .housing-is))
-    (λ h. unfold ifThere in refl) (height-is a (p .height)) (groupRule m (a .group)) (group-is m (a .group) (p .own) (p .own-is))
+    (λ h. unfold ifThere in refl) (height-is a (p .height)) none (groupRule m (a .group)) (group-is m (a .group) (p .own) (p .own-is))
 by-plan a m ok (draw x) housing p =
     light-shape m ok a (lanes-known m ok (a .lanes) (p .unit) (p .lanes)) (housing .points) (housing .warnings) (some (x .points)) (begun m (some (x .points)) (some (fresh m)) (x .warnings))
     (begun-is m (some (x .points)) (some (fresh m)) (x .warnings))
     (plan-warned m (a .lanes) (p .own) (a .choice) (a .points) x (first-fits m ok (a .lanes) (lanes-known m ok (a .lanes) (p .unit) (p .lanes))) (p .plan-is)) (housing-warned m (getD (a .lanes) 0 0) (p .anchor) (a .housing) housing (p .housing-is))
-    (λ h. unfold ifThere in small-fits (fresh m) (suc (fresh m)) (omega arith) h) (height-is a (p .height)) (groupRule m (a .group)) (group-is m (a .group) (p .own) (p .own-is))
+    (λ h. unfold ifThere in small-fits (fresh m) (suc (fresh m)) (omega arith) h) (height-is a (p .height)) (x .ends) (groupRule m (a .group)) (group-is m (a .group) (p .own) (p .own-is))
 
 pub light-step : (a : NewTrafficSignal) (m : Map) (d : Draft) → isMap m ≡ true → lightEdit a m ≡ done d → Shape m d
 unfolding lightEdit

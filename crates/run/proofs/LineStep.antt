@@ -25,10 +25,11 @@ use Rattle.changes.specs.ChangeFile.{maxWarnings}
 use Rattle.changes.proofs.Entries.{Warned, more-warned, both-warned, one-warned}
 use Rattle.edit.specs.Edit.{Draft}
 use Rattle.place.specs.Place.{Placed, checkLaneList, placeStopLine}
+use Rattle.place.proofs.Answers.{done-is, went, next}
 use Rattle.edit.specs.StopLine.{NewStopLine, ruleAt, lineDraft, stopLineEdit}
 use Rattle.edit.specs.declared.StopRule.{StopRule}
 use Rattle.edit.specs.declared.StopRule.the-variants.{StopSign, Marking, NoRule}
-use Rattle.run.proofs.Answers.{done-is, went, next, lanes-known, below-fits, no-fresh, is-fresh, no-ok, is-ok, kept-same, kept-ok, none-gone, none-touched, rise-one, rise-two}
+use Rattle.run.proofs.Answers.{lanes-known, below-fits, no-fresh, is-fresh, no-ok, is-ok, kept-same, kept-ok, none-gone, none-touched, rise-one, rise-two}
 use Rattle.run.proofs.PlaceWarned.{first-fits, place-warned}
 use Rattle.run.proofs.Shape.{Shape, listed-created}
 
@@ -40,7 +41,7 @@ rule-of NoRule n w h e = let z : _≡_ {A = ℕ} 0 1 = cc in absurd (omega arith
 
 module _ (a : NewStopLine) (m : Map) (ok : isMap m ≡ true) (known : every (λ n. ltb n (m .next)) (a .lanes) ≡ true) (p : Placed) (pw : Warned 1 (p .warnings)) where
   abbrev drawn : Draft
-  drawn = record { map = withLine m (p .points); id = fresh m; stored = p .points; changes = record { created = entity 5 (fresh m) ∷ []; modified = []; deleted = []; warnings = p .warnings } }
+  drawn = record { map = withLine m (p .points); id = fresh m; stored = p .points; ends = p .ends; changes = record { created = entity 5 (fresh m) ∷ []; modified = []; deleted = []; warnings = p .warnings } }
 
   abbrev newLine : LineString
   newLine = record { num = fresh m; geometry = p .points }

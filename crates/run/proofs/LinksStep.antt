@@ -31,7 +31,8 @@ use Rattle.changes.proofs.Refs.{same-as}
 use Rattle.edit.specs.Edit.{Draft}
 use Rattle.edit.specs.Links.{RegulatoryLinks, kindsOf, firstEntry, relinked, toList, stopLinesOf, sameLinks, linkChanges, linksEdit}
 use Rattle.place.specs.Place.{refuseFound}
-use Rattle.run.proofs.Answers.{never, done-is, went, next, past, there, unfound, known, below-fits, no-fresh, no-ok}
+use Rattle.place.proofs.Answers.{never, done-is, went, next, past, there}
+use Rattle.run.proofs.Answers.{unfound, known, below-fits, no-fresh, no-ok}
 use Rattle.run.proofs.Rules.{body-ok, rule-made, put, put-all, put-same, put-gone, put-touched}
 use Rattle.run.proofs.Shape.{Shape, listed-created}
 
@@ -116,7 +117,7 @@ links-warned false n = none-warned
 module _ (m : Map) (ok : isMap m ≡ true) (r s : Rule) (ls : List ℕ) (found : find (λ x. x .num) (s .num) (m .rules) ≡ some r) (n : r .num ≡ s .num)
     (l : Relinked ls (r .body) (s .body)) (so : ruleOk s ≡ true) where
   abbrev draft : Draft
-  draft = record { map = withRules m (replaced (λ x. x .num) s (m .rules)); id = r .num; stored = []; changes = linkChanges (sameLinks r s) (r .num) }
+  draft = record { map = withRules m (replaced (λ x. x .num) s (m .rules)); id = r .num; stored = []; ends = none; changes = linkChanges (sameLinks r s) (r .num) }
 
   no-created : (b : Bool) (k : ℕ) (a : EntityRef) → listed (linkChanges b k .created) a ≡ false
   unfolding linkChanges listed

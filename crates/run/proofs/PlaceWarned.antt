@@ -23,7 +23,7 @@ use Rattle.changes.proofs.Entries.{Warned, none-warned, one-warned}
 use Rattle.place.specs.Place.{Placed, laneCenterline, checkPolyline, crossSection, clampWarning, placeAt, placeAs, placeStopLine}
 use Rattle.place.specs.declared.Placement.{Placement}
 use Rattle.place.specs.declared.Placement.the-variants.{AtLaneEnd, AtStation, Given}
-use Rattle.run.proofs.Answers.{done-is, went, next, past}
+use Rattle.place.proofs.Answers.{done-is, went, next, past}
 
 pub first-fits : (m : Map) → isMap m ≡ true → (ls : List ℕ) → every (λ n. ltb n (m .next)) ls ≡ true → getD ls 0 0 < 2 ^ 64
 unfolding every

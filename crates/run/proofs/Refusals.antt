@@ -22,6 +22,8 @@ use Rattle.changes.specs.Running.{State, foldFits}
 use Rattle.edit.specs.Edit.{Draft, finish}
 use Rattle.edit.specs.Light.{NewTrafficSignal, Plan, use-line, use-none, draw, lightLine, groupLine, differs, checkChoice, existingStopLine, drawPlan, autoPlan, planFor, anchorFor, synthesizeSignalGeometry, housingFor, stationOf, badHeight, checkHousing, lightPlan, lightEdit}
 use Rattle.edit.specs.Links.{RegulatoryLinks, kindsOf, relinked, linksEdit}
+use Rattle.place.specs.declared.LaneSide.the-variants.{Left, Right}
+use Rattle.place.specs.declared.EndName.{EndName}
 use Rattle.place.specs.Place.{End, Ends, laneCenterline, refuseFound, checkLaneList, checkPolyline, withSide, withLane, withLanes, section, crossSection, placeAt, placeAs, placeStopLine}
 use Rattle.edit.specs.StopLine.{NewStopLine, stopLineEdit}
 use Rattle.place.specs.declared.Placement.{Placement}
@@ -72,13 +74,15 @@ low-given cs =
     low-past (not (eqb (length cs % 3) 0 && every isFinite cs)) 5 (1 ∷ []) _ refl (low-past (not (every onMap cs)) 9 [] _ refl (low-past (ltb 64 (length (polylineOf cs))) 10 [] _ refl
     (low-when (not (isValid (polylineOf cs))) 5 (2 ∷ []) refl)))
 
-low-side : (m : Map) (p : Point3) (v : Point2) (s : BoundaryRef) (es : Ends) → low (withSide m p v s es) ≡ true
+low-side : (m : Map) (p : Point3) (v : Point2) (x : EndName) (s : BoundaryRef) (es : Ends) → low (withSide m p v x s es) ≡ true
 unfolding withSide
-low-side m p v s es = low-bind (present (oriented m s) 6 (4 ∷ [])) _ (low-present (oriented m s) 6 (4 ∷ []) refl) (λ b. refl)
+low-side m p v x s es = low-bind (present (oriented m s) 6 (4 ∷ [])) _ (low-present (oriented m s) 6 (4 ∷ []) refl) (λ b. refl)
 
 low-lane : (m : Map) (p : Point3) (v : Point2) (n : ℕ) (es : Ends) → low (withLane m p v n es) ≡ true
 unfolding withLane
-low-lane m p v n es = low-bind (present (laneOf m n) 6 (4 ∷ [])) _ (low-present (laneOf m n) 6 (4 ∷ []) refl) (λ l. low-bind (withSide m p v (l .left) es) _ (low-side m p v (l .left) es) (λ o. low-side m p v (l .right) o))
+low-lane m p v n es =
+    low-bind (present (laneOf m n) 6 (4 ∷ [])) _ (low-present (laneOf m n) 6 (4 ∷ []) refl) (λ l.
+    low-bind (withSide m p v (record { lane = n; side = Left }) (l .left) es) _ (low-side m p v (record { lane = n; side = Left }) (l .left) es) (λ o. low-side m p v (record { lane = n; side = Right }) (l .right) o))
 
 low-all-lanes : (m : Map) (p : Point3) (v : Point2) (ns : List ℕ) (es : Ends) → low (withLanes m p v ns es) ≡ true
 unfolding withLanes
@@ -160,7 +164,7 @@ low-anchor : (m : Map) (ls : List ℕ) (p : Plan) → low (anchorFor m ls p) ≡
 unfolding anchorFor
 low-anchor m ls (use-line s) = low-bind (present (lineOf m s) 2 (5 ∷ s ∷ [])) _ (low-present (lineOf m s) 2 (5 ∷ s ∷ []) refl) (λ l. refl)
 low-anchor m ls (draw p) = refl
-low-anchor m ls use-none = low-cross m (getD ls 0 0) _ ls
+low-anchor m ls use-none = low-bind (crossSection m (getD ls 0 0) _ ls) _ (low-cross m (getD ls 0 0) _ ls) (λ x. refl)
 
 low-synthesized : (m : Map) (n : ℕ) (xs : Polyline) → low (synthesizeSignalGeometry m n xs) ≡ true
 unfolding synthesizeSignalGeometry

@@ -21,6 +21,7 @@ use Rattle.edit.specs.declared.StopLineChoice.{StopLineChoice}
 use Rattle.edit.specs.declared.StopLineChoice.the-variants.{Automatic, Existing, New, NoLine}
 use Rattle.edit.specs.Edit.{Outcome}
 use Rattle.edit.specs.Light.{NewTrafficSignal}
+use Rattle.run.specs.LineEnds.{toldBy, endsAnswered}
 use Rattle.run.specs.Run.{Edit, line, signal, links, runOne, stateAfter, runAll, setsOf, Call, calls, foldCalls, open-all}
 
 -- ---- what a call alters
@@ -201,6 +202,8 @@ pub record Accepted (e : Edit) (s : State) (o : Outcome) : Type 0 where
   pub rise : rising (λ n. n) (s .map .next) (o .state .map .next) (handed (o .changes)) ≡ true
   -- a light has left no stop rule of its lanes on its line
   pub lights : liftedBy e (s .map) (o .state .map) ≡ true
+  -- it names the ends of a line that it has drawn across lanes, and of no other
+  pub ends : endsAnswered e (s .map) (toldBy o)
   -- the state that it leaves passes, so that the next call takes it
   pub valid : passes (o .state) ≡ true
 
