@@ -1,0 +1,2 @@
+mod PlacingLaws
+pub mod EditLaws

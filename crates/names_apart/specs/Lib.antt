@@ -1,0 +1,3 @@
+pub mod Placing
+pub mod Edits
+pub mod Apart
