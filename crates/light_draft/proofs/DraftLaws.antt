@@ -19,6 +19,7 @@ use Rattle.map.specs.MapFile.{rule, isMap}
 use Rattle.map.specs.Rows.{fresh, withLine, withSignal, withRule, withRules, ruleWith}
 use Rattle.map.proofs.Parts.{map-parts, table-rises}
 use Rattle.changes.specs.ChangeSet.{ChangeSet, warning}
+use Rattle.place.specs.declared.MaybeEnds.{MaybeEnds}
 use Rattle.place.specs.Place.{Placed, checkLaneList}
 use Rattle.edit.specs.Light.{NewTrafficSignal, Plan, use-line, use-none, draw, Planned, Drawing, badHeight, checkHousing, checkChoice, planFor, anchorFor, housingFor, lightLine, groupLine, lineDrawn, signalDrawn, grouped, extended, joinedLanes, groupRule, lift, kept, easedRef, goneRef, liftWarning, liftAll, newSignal, lightPlan, lightDraft}
 use Rattle.centerline.specs.declared.Line.{Line}
@@ -184,8 +185,8 @@ module _ (a : NewTrafficSignal) (m : Map) (ok : isMap m ≡ true) where
   -- ---- the change set
 
   -- what a plan of the code leaves, with numbers to spare
-  abbrev plannedOf : LinePlan → Line → Bool → Line → Bool → Planned
-  plannedOf plan line clamped housing made = record { plan = planOf plan (drawnOf (getD (a .lanes) 0 0) line clamped); housing = housingOf housing made }
+  abbrev plannedOf : LinePlan → Line → Bool → MaybeEnds → Line → Bool → Planned
+  plannedOf plan line clamped es housing made = record { plan = planOf plan (drawnOf (getD (a .lanes) 0 0) line clamped es); housing = housingOf housing made }
 
   second : max 1 (suc (fresh m)) ≡ fresh m + 1
   second = max-eq-right {n = 1} {m = suc (fresh m)} (omega arith) ∙ omega arith
@@ -202,30 +203,30 @@ module _ (a : NewTrafficSignal) (m : Map) (ok : isMap m ≡ true) where
   abbrev setIn : Drawing → ChangeSet
   setIn d = record { created = d .created; modified = d .modified; deleted = d .deleted; warnings = d .warnings }
 
-  new-set : (plan : LinePlan) (line housing : Line) (clamped made : Bool)
-      → setIn (four (planOf plan (drawnOf (getD (a .lanes) 0 0) line clamped)) (housingOf housing made) none) ≡ lightSet (numbersFor false (m .next) plan none) clamped made (a .lanes) (m .rules)
+  new-set : (plan : LinePlan) (line housing : Line) (clamped made : Bool) (es : MaybeEnds)
+      → setIn (four (planOf plan (drawnOf (getD (a .lanes) 0 0) line clamped es)) (housingOf housing made) none) ≡ lightSet (numbersFor false (m .next) plan none) clamped made (a .lanes) (m .rules)
   unfolding lightSet liftAll grouped signalDrawn lineDrawn newSignal
-  new-set (Use s) line housing clamped made = ap setIn (new-lifted a (two (use-line s) (housingOf housing made)) (fresh m) s) ∙ rw (after, plain)
-  new-set NoLine line housing clamped made = rw (after, plain, append-nil (cond made (warning 3 none ∷ []) []))
-  new-set (Draw how) line housing clamped made =
-      ap setIn (new-lifted a (two (draw (drawnOf (getD (a .lanes) 0 0) line clamped)) (housingOf housing made)) (fresh (withLine m (pointsOf line))) (fresh m)) ∙ rw (third, second)
+  new-set (Use s) line housing clamped made es = ap setIn (new-lifted a (two (use-line s) (housingOf housing made)) (fresh m) s) ∙ rw (after, plain)
+  new-set NoLine line housing clamped made es = rw (after, plain, append-nil (cond made (warning 3 none ∷ []) []))
+  new-set (Draw how) line housing clamped made es =
+      ap setIn (new-lifted a (two (draw (drawnOf (getD (a .lanes) 0 0) line clamped es)) (housingOf housing made)) (fresh (withLine m (pointsOf line))) (fresh m)) ∙ rw (third, second)
 
   module _ (g : ℕ) (j : Joinable m g) where
-    joined-set : (plan : LinePlan) (line housing : Line) (clamped made : Bool)
-        → setIn (four (planOf plan (drawnOf (getD (a .lanes) 0 0) line clamped)) (housingOf housing made) (some (j .rule))) ≡ lightSet (numbersFor false (m .next) plan (some g)) clamped made (a .lanes) (m .rules)
+    joined-set : (plan : LinePlan) (line housing : Line) (clamped made : Bool) (es : MaybeEnds)
+        → setIn (four (planOf plan (drawnOf (getD (a .lanes) 0 0) line clamped es)) (housingOf housing made) (some (j .rule))) ≡ lightSet (numbersFor false (m .next) plan (some g)) clamped made (a .lanes) (m .rules)
     unfolding lightSet liftAll grouped signalDrawn lineDrawn newSignal
-    joined-set (Use s) line housing clamped made =
+    joined-set (Use s) line housing clamped made es =
         ap setIn (joined-lifted a (two (use-line s) (housingOf housing made)) (fresh m) s (j .rule) (j .signals) (j .line) (j .body) (m .next) (rules-rise m ok) (here g j)) ∙ rw (group-number m g j, plain)
-    joined-set NoLine line housing clamped made = rw (group-number m g j, plain, append-nil (cond made (warning 3 none ∷ []) []))
-    joined-set (Draw how) line housing clamped made =
-        ap setIn (joined-lifted a (two (draw (drawnOf (getD (a .lanes) 0 0) line clamped)) (housingOf housing made)) (fresh (withLine m (pointsOf line))) (fresh m) (j .rule) (j .signals) (j .line) (j .body) (m .next) (rules-rise m ok) (here g j))
+    joined-set NoLine line housing clamped made es = rw (group-number m g j, plain, append-nil (cond made (warning 3 none ∷ []) []))
+    joined-set (Draw how) line housing clamped made es =
+        ap setIn (joined-lifted a (two (draw (drawnOf (getD (a .lanes) 0 0) line clamped es)) (housingOf housing made)) (fresh (withLine m (pointsOf line))) (fresh m) (j .rule) (j .signals) (j .line) (j .body) (m .next) (rules-rise m ok) (here g j))
         ∙ rw (group-number m g j, second)
 
-  pub changes-are : (plan : LinePlan) (line housing : Line) (clamped made : Bool) → ((g : ℕ) → a .group ≡ some g → Joinable m g)
-      → lightDraft a m (plannedOf plan line clamped housing made) .changes ≡ lightSet (numbersFor false (m .next) plan (a .group)) clamped made (a .lanes) (m .rules)
+  pub changes-are : (plan : LinePlan) (line housing : Line) (clamped made : Bool) (es : MaybeEnds) → ((g : ℕ) → a .group ≡ some g → Joinable m g)
+      → lightDraft a m (plannedOf plan line clamped es housing made) .changes ≡ lightSet (numbersFor false (m .next) plan (a .group)) clamped made (a .lanes) (m .rules)
   unfolding lightDraft groupRule
-  changes-are plan line housing clamped made f = go (a .group) refl
+  changes-are plan line housing clamped made es f = go (a .group) refl
     where
-      go : (o : Option ℕ) → a .group ≡ o → setIn (four (planOf plan (drawnOf (getD (a .lanes) 0 0) line clamped)) (housingOf housing made) (groupRule m o)) ≡ lightSet (numbersFor false (m .next) plan o) clamped made (a .lanes) (m .rules)
-      go none e = new-set plan line housing clamped made
-      go (some g) e = let j = f g e in rw (j .found) (joined-set g j plan line housing clamped made)
+      go : (o : Option ℕ) → a .group ≡ o → setIn (four (planOf plan (drawnOf (getD (a .lanes) 0 0) line clamped es)) (housingOf housing made) (groupRule m o)) ≡ lightSet (numbersFor false (m .next) plan o) clamped made (a .lanes) (m .rules)
+      go none e = new-set plan line housing clamped made es
+      go (some g) e = let j = f g e in rw (j .found) (joined-set g j plan line housing clamped made es)

@@ -34,14 +34,16 @@ use Rattle.map.specs.Tables.{listAt, bodyOf, ruleIn, mapOf, isMapTables}
 use Rattle.map.specs.Access.{lookup}
 use Rattle.map.proofs.ReadLaws.{rule-found, no-rule}
 use Rattle.map.proofs.SoundLaws.{sound}
-use Rattle.place.specs.Values.{Roomy}
+use Rattle.place.specs.declared.MaybeEnds.{MaybeEnds}
+use Rattle.place.specs.Place.{Placed}
+use Rattle.place.specs.Values.{Roomy, maybeEnds}
 use Rattle.placing.specs.declared.Checked.{Checked}
 use Rattle.placing.specs.declared.Checked.the-variants.{Fine, Refused}
 use Rattle.placing.specs.Answers.{checked, maybeNumber}
 use Rattle.edit.specs.Request.{newTrafficSignal}
 use Rattle.signal_row.specs.declared.Bulbs.{Bulbs}
 use Rattle.edit.specs.declared.SignalRequest.{SignalRequest}
-use Rattle.edit.specs.Light.{NewTrafficSignal, lineDrawn, planPoints, positions, joinedLanes, groupRule, bulbsOf, newSignal, lightPlan, lightDraft, lightEdit}
+use Rattle.edit.specs.Light.{NewTrafficSignal, lineDrawn, planPoints, planEnds, positions, joinedLanes, groupRule, bulbsOf, newSignal, lightPlan, lightDraft, lightEdit}
 use Rattle.finishing.specs.Finish.{planned}
 use Rattle.finishing.proofs.CallLaws.{edit-refused, plan-off, plan-tests}
 use Rattle.finishing.proofs.CeilingLaws.{every-join}
@@ -49,7 +51,7 @@ use Rattle.lighting.specs.declared.LinePlan.{LinePlan}
 use Rattle.lighting.specs.declared.LinePlan.the-variants.{Use, NoLine, Draw}
 use Rattle.lighting.specs.Housing.{housingOf}
 use Rattle.lighting.specs.declared.LightPlan.{LightPlan}
-use Rattle.lighting.specs.Plan.{planOf, drawnOf, planAnswer, LightPlanned}
+use Rattle.lighting.specs.Plan.{planOf, drawnOf, draws, planAnswer, LightPlanned}
 use Rattle.signal_row.specs.Row.{BulbsRead}
 use Rattle.grouping.specs.Group.{JoinedRead}
 use Rattle.light_draft.specs.declared.Light.{Light}
@@ -75,15 +77,15 @@ module _ (a : NewTrafficSignal) (m : Map) where
   second : max 1 (suc (fresh m)) ≡ fresh m + 1
   second = max-eq-right {n = 1} {m = suc (fresh m)} (omega arith) ∙ omega arith
 
-  pub stored-light : (plan : LinePlan) (line housing : Line) (clamped made : Bool)
-      → storedMap a m (record { plan = planOf plan (drawnOf (getD (a .lanes) 0 0) line clamped); housing = housingOf housing made })
+  pub stored-light : (plan : LinePlan) (line housing : Line) (clamped made : Bool) (es : MaybeEnds)
+      → storedMap a m (record { plan = planOf plan (drawnOf (getD (a .lanes) 0 0) line clamped es); housing = housingOf housing made })
       ≡ lightMap m (numbersFor false (m .next) plan (a .group)) (a .lanes) (pointsOf line) (newSignal a (numbersFor false (m .next) plan (a .group) .signal) (pointsOf housing)) (groupIn m (numbersFor false (m .next) plan (a .group)))
   unfolding storedMap lightMap lineDrawn liftedFirst withPlan groupRule
-  stored-light plan line housing clamped made = go plan (a .group)
+  stored-light plan line housing clamped made es = go plan (a .group)
     where
       go : (pl : LinePlan) (o : Option ℕ)
-          → (let ln = lineDrawn m (planOf pl (drawnOf (getD (a .lanes) 0 0) line clamped)) .line in
-          let one = withPlan (liftedFirst m ln (a .lanes)) (planOf pl (drawnOf (getD (a .lanes) 0 0) line clamped)) in
+          → (let ln = lineDrawn m (planOf pl (drawnOf (getD (a .lanes) 0 0) line clamped es)) .line in
+          let one = withPlan (liftedFirst m ln (a .lanes)) (planOf pl (drawnOf (getD (a .lanes) 0 0) line clamped es)) in
           withLight (withSignal one (newSignal a (fresh one) (pointsOf housing))) (a .lanes) (fresh one) ln (groupRule m o))
           ≡ lightMap m (numbersFor false (m .next) pl o) (a .lanes) (pointsOf line) (newSignal a (numbersFor false (m .next) pl o .signal) (pointsOf housing)) (groupIn m (numbersFor false (m .next) pl o))
       go (Use s) none = rw plain
@@ -95,22 +97,30 @@ module _ (a : NewTrafficSignal) (m : Map) where
 
 -- ---- what is stored
 
-module _ (a : NewTrafficSignal) (m : Map) (plan : LinePlan) (line housing : Line) (clamped made : Bool) (on : Bool) (eo : on ≡ every pointOnMap (positions (bulbsOf a (pointsOf housing)))) where
-  pub stored-is : every pointOnMap (lightDraft a m (record { plan = planOf plan (drawnOf (getD (a .lanes) 0 0) line clamped); housing = housingOf housing made }) .stored)
+module _ (a : NewTrafficSignal) (m : Map) (plan : LinePlan) (line housing : Line) (clamped made : Bool) (es : MaybeEnds) (on : Bool) (eo : on ≡ every pointOnMap (positions (bulbsOf a (pointsOf housing)))) where
+  pub stored-is : every pointOnMap (lightDraft a m (record { plan = planOf plan (drawnOf (getD (a .lanes) 0 0) line clamped es); housing = housingOf housing made }) .stored)
       ≡ onMap (lineFor plan (fresh m) .drawn) (pointsOf line) (pointsOf housing) on
   unfolding lightDraft onMap planPoints every
   stored-is =
-      every-join pointOnMap (planPoints (planOf plan (drawnOf (getD (a .lanes) 0 0) line clamped)) ++ pointsOf housing) (positions (bulbsOf a (pointsOf housing)))
-      ∙ ap (λ (x : Bool). x && every pointOnMap (positions (bulbsOf a (pointsOf housing)))) (every-join pointOnMap (planPoints (planOf plan (drawnOf (getD (a .lanes) 0 0) line clamped))) (pointsOf housing))
-      ∙ and-assoc (every pointOnMap (planPoints (planOf plan (drawnOf (getD (a .lanes) 0 0) line clamped)))) (every pointOnMap (pointsOf housing)) (every pointOnMap (positions (bulbsOf a (pointsOf housing))))
-      ∙ ap (λ (t : Bool). every pointOnMap (planPoints (planOf plan (drawnOf (getD (a .lanes) 0 0) line clamped))) && (every pointOnMap (pointsOf housing) && t)) (sym eo)
+      every-join pointOnMap (planPoints (planOf plan (drawnOf (getD (a .lanes) 0 0) line clamped es)) ++ pointsOf housing) (positions (bulbsOf a (pointsOf housing)))
+      ∙ ap (λ (x : Bool). x && every pointOnMap (positions (bulbsOf a (pointsOf housing)))) (every-join pointOnMap (planPoints (planOf plan (drawnOf (getD (a .lanes) 0 0) line clamped es))) (pointsOf housing))
+      ∙ and-assoc (every pointOnMap (planPoints (planOf plan (drawnOf (getD (a .lanes) 0 0) line clamped es)))) (every pointOnMap (pointsOf housing)) (every pointOnMap (positions (bulbsOf a (pointsOf housing))))
+      ∙ ap (λ (t : Bool). every pointOnMap (planPoints (planOf plan (drawnOf (getD (a .lanes) 0 0) line clamped es))) && (every pointOnMap (pointsOf housing) && t)) (sym eo)
       ∙ go plan
     where
-      go : (pl : LinePlan) → (every pointOnMap (planPoints (planOf pl (drawnOf (getD (a .lanes) 0 0) line clamped))) && (every pointOnMap (pointsOf housing) && on))
+      go : (pl : LinePlan) → (every pointOnMap (planPoints (planOf pl (drawnOf (getD (a .lanes) 0 0) line clamped es))) && (every pointOnMap (pointsOf housing) && on))
           ≡ (cond (lineFor pl (fresh m) .drawn) (every pointOnMap (pointsOf line)) true && (every pointOnMap (pointsOf housing) && on))
       go (Use s) = refl
       go NoLine = refl
       go (Draw how) = refl
+
+-- ---- the names of the ends
+
+ends-are : (plan : LinePlan) (x : Placed) → (draws plan ≡ false → x .ends ≡ none) → x .ends ≡ planEnds (planOf plan x)
+unfolding planEnds
+ends-are (Use s) x h = h refl
+ends-are NoLine x h = h refl
+ends-are (Draw how) x h = refl
 
 -- ---- the lists of the rule
 
@@ -199,7 +209,7 @@ module _ (ws : List ℕ) (cs : List Float) (ok : isMapTables ws cs ≡ true) (a 
   sig = newSignal a (right .signal) (pointsOf (p .housing))
 
   map-is : signalDraft a (mapOf ws cs) p .map ≡ lightMap (mapOf ws cs) right (a .lanes) (pointsOf (p .line)) sig (groupIn (mapOf ws cs) right)
-  map-is = map-order a (mapOf ws cs) is-map (plannedIn (a .lanes) p) joinable ∙ stored-light a (mapOf ws cs) (p .plan) (p .line) (p .housing) (p .clamped) (p .synthesized)
+  map-is = map-order a (mapOf ws cs) is-map (plannedIn (a .lanes) p) joinable ∙ stored-light a (mapOf ws cs) (p .plan) (p .line) (p .housing) (p .clamped) (p .synthesized) (p .ends)
 
   -- what the tests say, with the lists and what goes
 
@@ -268,7 +278,7 @@ module _ (ws : List ℕ) (cs : List Float) (ok : isMapTables ws cs ≡ true) (a 
 
     on-is : every pointOnMap (signalDraft a (mapOf ws cs) p .stored) ≡ onMap (p .light .drawn) (pointsOf (p .line)) (pointsOf (p .housing)) on
     on-is =
-        stored-is a (mapOf ws cs) (p .plan) (p .line) (p .housing) (p .clamped) (p .synthesized) on ho
+        stored-is a (mapOf ws cs) (p .plan) (p .line) (p .housing) (p .clamped) (p .synthesized) (p .ends) on ho
         ∙ ap (λ (b : Bool). onMap b (pointsOf (p .line)) (pointsOf (p .housing)) on) (sym drawn-is)
 
     tests-are : (b : Bool) → onMap (p .light .drawn) (pointsOf (p .line)) (pointsOf (p .housing)) on ≡ b → planned (lightEdit a) (mapOf ws cs) ≡ (checked r >> done (signalDraft a (mapOf ws cs) p))
@@ -304,7 +314,7 @@ plan-any lanes q points housing lamps m = refl
 module _ (ws : List ℕ) (cs : List Float) (ok : isMapTables ws cs ≡ true) (q : SignalRequest) (lanes : List ℕ) (points given lamps : List Float) (lp : LightPlan)
     (hp : LightPlanned lanes (lightPlan (newTrafficSignal lanes q points given []) (mapOf ws cs)) lp) (l : Light) (b : Bulbs) (e : Entries) where
   abbrev all : SignalPlan
-  all = record { checked = lp .checked; plan = lp .plan; light = l; line = lp .line; clamped = lp .clamped; housing = lp .housing; synthesized = lp .synthesized; bulbs = b; joined = e }
+  all = record { checked = lp .checked; plan = lp .plan; light = l; line = lp .line; clamped = lp .clamped; ends = lp .ends; housing = lp .housing; synthesized = lp .synthesized; bulbs = b; joined = e }
 
   abbrev asked : NewTrafficSignal
   asked = newTrafficSignal lanes q points given lamps
@@ -324,6 +334,10 @@ module _ (ws : List ℕ) (cs : List Float) (ok : isMapTables ws cs ≡ true) (q 
     hl : lightPlan asked (mapOf ws cs) ≡ done (plannedIn lanes all)
     hl = sym planned-so ∙ rw k
 
+    he : maybeEnds (lp .ends) ≡ signalDraft asked (mapOf ws cs) all .ends
+    unfolding lightDraft newTrafficSignal
+    he = ends-are (lp .plan) (drawnOf (getD lanes 0 0) (lp .line) (lp .clamped) (lp .ends)) (hp .read .ends .told k)
+
     ho : on ≡ every pointOnMap (positions (bulbsOf asked (pointsOf (lp .housing))))
     ho = eo ∙ lamps-all q (pointsOf (lp .housing)) lamps b hb lanes points given
 
@@ -341,6 +355,7 @@ module _ (ws : List ℕ) (cs : List Float) (ok : isMapTables ws cs ≡ true) (q 
       refused = λ y g. absurd (let z : Refused y ≡ Fine = sym g ∙ k in let w : _≡_ {A = ℕ} 0 1 = cc in omega arith);
       ready = λ _. record {
         answer = accepted ws cs ok asked all hl hn (hp .read .line) (hp .read .housing) (hb .count lanes points given) on ho hj r hf f;
+        ends = he;
         numbers = hn;
         line-room = hp .read .line;
         housing-room = hp .read .housing;

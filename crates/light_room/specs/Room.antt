@@ -23,7 +23,7 @@ use Rattle.map.specs.Ceilings.{rulePoints}
 use Rattle.map.specs.Record.{Map}
 use Rattle.map.specs.Tables.{listAt, mapOf}
 use Rattle.map.specs.Access.{lookup}
-use Rattle.place.specs.Values.{Roomy}
+use Rattle.place.specs.Values.{Roomy, maybeEnds}
 use Rattle.placing.specs.declared.Checked.{Checked}
 use Rattle.placing.specs.declared.Checked.the-variants.{Fine, Refused}
 use Rattle.placing.specs.Answers.{checked}
@@ -98,7 +98,7 @@ pub record PlanRefused (x : Refusal) (r : SignalPlan) : Type 0 where
 -- what the plan stands for, and its draft
 abbrev pub plannedIn : List ℕ → SignalPlan → Planned
 plannedIn lanes p =
-    record { plan = planOf (p .plan) (drawnOf (getD lanes 0 0) (p .line) (p .clamped)); housing = housingOf (p .housing) (p .synthesized) }
+    record { plan = planOf (p .plan) (drawnOf (getD lanes 0 0) (p .line) (p .clamped) (p .ends)); housing = housingOf (p .housing) (p .synthesized) }
 
 abbrev pub signalDraft : NewTrafficSignal → Map → SignalPlan → Draft
 signalDraft a m p = lightDraft a m (plannedIn (a .lanes) p)
@@ -106,6 +106,7 @@ signalDraft a m p = lightDraft a m (plannedIn (a .lanes) p)
 -- a plan that is accepted, and what storing it asks for
 pub record SignalReady (ws : List ℕ) (cs : List Float) (q : SignalRequest) (lamps : List Float) (a : NewTrafficSignal) (p : SignalPlan) : Type 0 where
   pub answer : planned (lightEdit a) (mapOf ws cs) ≡ done (signalDraft a (mapOf ws cs) p)
+  pub ends : maybeEnds (p .ends) ≡ signalDraft a (mapOf ws cs) p .ends
   pub numbers : LightNumbered (nextOf ws) (p .plan) (a .group) (p .light)
   pub line-room : Roomy (p .line)
   pub housing-room : Roomy (p .housing)

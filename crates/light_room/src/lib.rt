@@ -8,6 +8,7 @@ use light_draft::light_of;
 use lighting::LinePlan;
 use lighting::plan::light_plan;
 use map::Entries;
+use place::MaybeEnds;
 use placing::Checked;
 use refusal::Refusal;
 use signal_row::Bulbs;
@@ -30,6 +31,7 @@ pub struct SignalPlan {
     pub light: Light,
     pub line: Line,
     pub clamped: bool,
+    pub ends: MaybeEnds,
     pub housing: Line,
     pub synthesized: bool,
     pub bulbs: Bulbs,
@@ -69,6 +71,7 @@ fn refused_plan(r: Refusal, p: SignalPlan) -> SignalPlan
     let plan = p.plan;
     let light = p.light;
     let line = p.line;
+    let ends = p.ends;
     let housing = p.housing;
     let bulbs = p.bulbs;
     let joined = p.joined;
@@ -78,6 +81,7 @@ fn refused_plan(r: Refusal, p: SignalPlan) -> SignalPlan
         light,
         line,
         clamped: p.clamped,
+        ends,
         housing,
         synthesized: p.synthesized,
         bulbs,
@@ -102,6 +106,7 @@ pub fn signal_plan(
     let checked = p.checked;
     let plan = p.plan;
     let line = p.line;
+    let ends = p.ends;
     let housing = p.housing;
     let group = q.group;
     let light = light_of(words, plan, group);
@@ -113,6 +118,7 @@ pub fn signal_plan(
         light,
         line,
         clamped: p.clamped,
+        ends,
         housing,
         synthesized: p.synthesized,
         bulbs,

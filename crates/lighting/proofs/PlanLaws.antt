@@ -25,14 +25,17 @@ use Rattle.map.specs.Tables.{lineAt, lineStringIn, mapOf}
 use Rattle.map.specs.Access.{lookup}
 use Rattle.map.proofs.ReadLaws.{line-found, no-line}
 use Rattle.place.specs.declared.CrossSection.{CrossSection}
+use Rattle.place.specs.declared.MaybeEnds.the-variants as ends
 use Rattle.place.specs.declared.MaybeLine.{MaybeLine}
 use Rattle.place.specs.declared.MaybeSection.{MaybeSection}
 use Rattle.place.specs.declared.MaybeSection.the-variants as s
 use Rattle.place.specs.declared.Placement.{Placement}
-use Rattle.place.specs.Place.{Placed, checkPolyline, laneCenterline, crossSection, placeStopLine}
+use Rattle.place.specs.declared.SectionNames.{SectionNames}
+use Rattle.place.specs.Place.{Placed, Section, checkPolyline, laneCenterline, crossSection, placeStopLine}
 use Rattle.place.specs.Readable.{Readable}
 use Rattle.place.specs.Steps.{sectionOn}
-use Rattle.place.specs.Values.{maybeLine, Roomy, LineRead, sectionAnswer}
+use Rattle.place.specs.Values.{maybeLine, Roomy, LineRead, sectionAnswer, maybeEnds}
+use Rattle.place.proofs.Answers.{never, done-is}
 use Rattle.place.proofs.LineLaws.{line-part, found-below, found-within, part-few}
 use Rattle.place.proofs.SectionLaws.{cross-section-is}
 use Rattle.placing.specs.declared.Checked.{Checked}
@@ -54,7 +57,7 @@ use Rattle.lighting.specs.declared.LinePlan.{LinePlan}
 use Rattle.lighting.specs.declared.LinePlan.the-variants.{Use, NoLine, Draw}
 use Rattle.lighting.specs.Group.{GroupRead, ChoiceChecked, PlanChosen, chosenPlan}
 use Rattle.lighting.specs.Housing.{housingOf, HousingRead, synthesizedOn, housingOn}
-use Rattle.lighting.specs.Plan.{planOf, lightAnswer, planAnswer, LightRead, LightPlanned, plannedFrom, plannedAs, ChoiceMade, asksCenter, CenterAt, StoredRead, endOf, EndRead, AnchorRead, Anchored}
+use Rattle.lighting.specs.Plan.{planOf, draws, EndsTold, lightAnswer, planAnswer, LightRead, LightPlanned, plannedFrom, plannedAs, ChoiceMade, asksCenter, CenterAt, StoredRead, endOf, EndRead, AnchorRead, Anchored}
 
 -- ---- answers in turn
 
@@ -184,7 +187,7 @@ module _ (ws : List ℕ) (cs : List Float) (x : ℕ) (r : Found) (e : r ≡ look
         pub stored-part : length p / 3 ≤ 64
         stored-part = part-few p (coordsOf cs 2 i) 0 n ep stored-few
 
-        pub stored-line : (l : Line) → pointsOf l ≡ polylineOf p → length (l .coords) ≡ 192 → StoredRead (mapOf ws cs) x (record { checked = Fine; line = l; clamped = false })
+        pub stored-line : (l : Line) → pointsOf l ≡ polylineOf p → length (l .coords) ≡ 192 → StoredRead (mapOf ws cs) x (record { checked = Fine; line = l; clamped = false; ends = ends.Nothing })
         unfolding lineStringIn
         stored-line l el w192 =
             record {
@@ -214,10 +217,17 @@ module _ (m : Map) (lanes : List ℕ) (c : MaybeLine) (read : CenterAt m (getD l
     pub end-refused : (y : Refusal) (a : PlacedLine) → x ≡ s.Refused y → RefusedWith y a → EndRead m lanes a
     end-refused y a q k = record { answer = λ n. k .answer n ∙ rw (end-is, q); room = k .room }
 
-    pub end-placed : (y : CrossSection) (l : Line) → x ≡ s.At y → pointsOf l ≡ y .left ∷ y .right ∷ [] → length (l .coords) ≡ 192 → EndRead m lanes (record { checked = Fine; line = l; clamped = false })
-    end-placed y l q k w = record { answer = λ n. rw (end-is, q, k); room = across-room (y .left) (y .right) l k w }
+    pub end-placed : (y : CrossSection) (z : SectionNames) (l : Line) → x ≡ s.At y z → pointsOf l ≡ y .left ∷ y .right ∷ [] → length (l .coords) ≡ 192
+        → EndRead m lanes (record { checked = Fine; line = l; clamped = false; ends = ends.Nothing })
+    end-placed y z l q k w = record { answer = λ n. rw (end-is, q, k); room = across-room (y .left) (y .right) l k w }
 
 -- ---- the anchor
+
+-- a line that is only read has no names
+no-ends : {A : Type 0} (n : ℕ) (a : PlacedLine) (x : Answer A) (u : A → Polyline) → placedAnswer n a ≡ (x >>= λ y. done (record { points = u y; warnings = []; ends = none })) → a .checked ≡ Fine
+    → maybeEnds (a .ends) ≡ none
+no-ends n a (refused i ds) u e q = never (sym (rw q at e))
+no-ends n a (done y) u e q = ap (λ (p : Placed). p .ends) (done-is (rw q at e))
 
 module _ (m : Map) (lanes : List ℕ) (plan : LinePlan) (points : List Float) (a : PlacedLine) where
   pub anchor-used : (x : ℕ) → plan ≡ Use x → StoredRead m x a → AnchorRead m lanes plan points a
@@ -226,8 +236,9 @@ module _ (m : Map) (lanes : List ℕ) (plan : LinePlan) (points : List Float) (a
       record {
         answer = λ g. rw q
             (ap (λ (z : Answer Placed). z >>= λ p. g (use-line x) (p .points)) (k .answer (getD lanes 0 0))
-            ∙ bind-done (present (lineOf m x) 2 (5 ∷ x ∷ [])) (λ l. record { points = l .geometry; warnings = [] }) (λ p. g (use-line x) (p .points))
+            ∙ bind-done (present (lineOf m x) 2 (5 ∷ x ∷ [])) (λ l. record { points = l .geometry; warnings = []; ends = none }) (λ p. g (use-line x) (p .points))
             ∙ sym (bind-done (present (lineOf m x) 2 (5 ∷ x ∷ [])) (λ l. l .geometry) (λ xs. g (use-line x) xs)));
+        ends = record { told = λ z d. no-ends (getD lanes 0 0) a (present (lineOf m x) 2 (5 ∷ x ∷ [])) (λ l. l .geometry) (k .answer (getD lanes 0 0)) z };
         room = k .room;
       }
 
@@ -237,7 +248,9 @@ module _ (m : Map) (lanes : List ℕ) (plan : LinePlan) (points : List Float) (a
       record {
         answer = λ g. rw q
             (ap (λ (z : Answer Placed). z >>= λ p. g use-none (p .points)) (k .answer (getD lanes 0 0))
-            ∙ bind-done (crossSection m (getD lanes 0 0) (endOf (laneCenterline m (getD lanes 0 0))) lanes) (λ xs. record { points = xs; warnings = [] }) (λ p. g use-none (p .points)));
+            ∙ bind-done (crossSection m (getD lanes 0 0) (endOf (laneCenterline m (getD lanes 0 0))) lanes) (λ x. record { points = x .points; warnings = []; ends = none }) (λ p. g use-none (p .points))
+            ∙ sym (bind-done (crossSection m (getD lanes 0 0) (endOf (laneCenterline m (getD lanes 0 0))) lanes) (λ (x : Section). x .points) (λ xs. g use-none xs)));
+        ends = record { told = λ z d. no-ends (getD lanes 0 0) a (crossSection m (getD lanes 0 0) (endOf (laneCenterline m (getD lanes 0 0))) lanes) (λ x. x .points) (k .answer (getD lanes 0 0)) z };
         room = k .room;
       }
 
@@ -248,6 +261,7 @@ module _ (m : Map) (lanes : List ℕ) (plan : LinePlan) (points : List Float) (a
         answer = λ g. rw q
             (ap (λ (z : Answer Placed). z >>= λ p. g (draw p) (p .points)) k
             ∙ sym (bind-done (placeStopLine m lanes how points) draw (λ x. anchorFor m lanes x >>= λ xs. g x xs)));
+        ends = record { told = λ z d. clash (let y : draws plan ≡ true = rw q in y) d };
         room = w;
       }
 
@@ -255,13 +269,14 @@ module _ (m : Map) (lanes : List ℕ) (plan : LinePlan) (points : List Float) (a
 
 module _ (center : MaybeLine) (plan : LinePlan) (a : PlacedLine) (given : Option (List Float)) where
   pub anchored-refused : (x : Refusal) (r : LightPlan) → a .checked ≡ Refused x → (r .checked ≡ Refused x) × Roomy (r .line) × Roomy (r .housing) → Anchored center plan a given r
-  anchored-refused x r q e = record { answer = λ n. rw (q, e .0); line = e .1; housing = e .2 }
+  anchored-refused x r q e = record { answer = λ n. rw (q, e .0); ends = λ w. record { told = λ z d. never-fine (r .checked) x (e .0) z }; line = e .1; housing = e .2 }
 
   pub anchored-fine : (k : Housing) → a .checked ≡ Fine → HousingRead (housingOn (maybeLine center) (pointsOf (a .line)) given) k → Roomy (a .line)
-      → Anchored center plan a given (record { checked = k .checked; plan = plan; line = a .line; clamped = a .clamped; housing = k .line; synthesized = k .synthesized })
+      → Anchored center plan a given (record { checked = k .checked; plan = plan; line = a .line; clamped = a .clamped; ends = a .ends; housing = k .line; synthesized = k .synthesized })
   anchored-fine k q e w =
       record {
         answer = λ n. rw (q, ← e .answer) (sym (then-done (checked (k .checked)) (housingOf (k .line) (k .synthesized)) _));
+        ends = λ t. record { told = λ z d. t .told q d };
         line = w;
         housing = e .room;
       }
@@ -289,6 +304,7 @@ light-is m lanes plan points given cs center a r ec ea er =
           (λ p. housingFor m n (p .points) o >>= λ k. done (record { plan = planOf plan p; housing = k }))
           (λ p. ap (λ (z : Answer Placed). z >>= λ k. done (record { plan = planOf plan p; housing = k })) (housing-is m n plan given cs center (p .points) ec))
           ∙ ea .answer (λ x xs. housingFor m n xs o >>= λ k. done (record { plan = x; housing = k }));
+      ends = er .ends (ea .ends);
       line = er .line;
       housing = er .housing;
     }
@@ -300,7 +316,12 @@ module _ (ws lanes : List ℕ) (q : SignalRequest) (housing cs points : List Flo
       → LightPlanned lanes (lightPlan (newTrafficSignal lanes q points housing []) (mapOf ws cs)) r
   plan-refused x k e =
       record {
-        read = record { answer = rw (e .0) (sym (made .answer cs points ∙ rw k)); line = e .1; housing = e .2 };
+        read = record {
+          answer = rw (e .0) (sym (made .answer cs points ∙ rw k));
+          ends = record { told = λ z d. never-fine (r .checked) x (e .0) z };
+          line = e .1;
+          housing = e .2;
+        };
         some-lanes = λ z. never-fine (r .checked) x (e .0) z;
       }
 
@@ -308,6 +329,6 @@ module _ (ws lanes : List ℕ) (q : SignalRequest) (housing cs points : List Flo
       → LightPlanned lanes (lightPlan (newTrafficSignal lanes q points housing []) (mapOf ws cs)) r
   plan-is k e =
       record {
-        read = record { answer = e .answer ∙ sym (made .answer cs points ∙ rw k); line = e .line; housing = e .housing };
+        read = record { answer = e .answer ∙ sym (made .answer cs points ∙ rw k); ends = e .ends; line = e .line; housing = e .housing };
         some-lanes = λ z. made .some-lanes k;
       }

@@ -20,7 +20,7 @@ use Rattle.lighting.specs.declared.Housing.{Housing}
 
 -- a warning where it was made up
 abbrev pub housingOf : Line → Bool → Placed
-housingOf l b = record { points = pointsOf l; warnings = cond b (warning 3 none ∷ []) [] }
+housingOf l b = record { points = pointsOf l; warnings = cond b (warning 3 none ∷ []) []; ends = none }
 
 abbrev pub housingAnswer : Housing → Answer Placed
 housingAnswer h = checked (h .checked) >> done (housingOf (h .line) (h .synthesized))
@@ -37,7 +37,7 @@ synthesizedOn center anchor = do
   done (housingAt mid dir)
 
 unfoldable pub housingOn : Option Polyline → Polyline → Option (List Float) → Answer Placed
-housingOn center anchor (some cs) = done (record { points = polylineOf cs; warnings = [] })
+housingOn center anchor (some cs) = done (record { points = polylineOf cs; warnings = []; ends = none })
 housingOn center anchor none = do
   xs ← synthesizedOn center anchor
-  done (record { points = xs; warnings = warning 3 none ∷ [] })
+  done (record { points = xs; warnings = warning 3 none ∷ []; ends = none })

@@ -16,9 +16,10 @@ use Rattle.map.specs.Entity.{entity}
 use Rattle.map.specs.Lookup.{lineOf}
 use Rattle.map.specs.Tables.{mapOf}
 use Rattle.changes.specs.ChangeSet.{warning}
+use Rattle.place.specs.declared.MaybeEnds.{MaybeEnds}
 use Rattle.place.specs.declared.MaybeLine.{MaybeLine}
 use Rattle.place.specs.Place.{Placed, laneCenterline, crossSection}
-use Rattle.place.specs.Values.{maybeLine, Roomy}
+use Rattle.place.specs.Values.{maybeLine, Roomy, maybeEnds}
 use Rattle.placing.specs.declared.Checked.{Checked}
 use Rattle.placing.specs.declared.Checked.the-variants.{Fine, Refused}
 use Rattle.placing.specs.declared.PlacedLine.{PlacedLine}
@@ -40,19 +41,29 @@ planOf (Use s) p = use-line s
 planOf NoLine p = use-none
 planOf (Draw how) p = draw p
 
--- a line drawn along the lane n, with a warning where its station was moved
-abbrev pub drawnOf : ℕ → Line → Bool → Placed
-drawnOf n l b = record { points = pointsOf l; warnings = cond b (warning 1 (some (entity 1 n)) ∷ []) [] }
+-- a line drawn along the lane n, with a warning where its station was moved, and its ends' names
+abbrev pub drawnOf : ℕ → Line → Bool → MaybeEnds → Placed
+drawnOf n l b es = record { points = pointsOf l; warnings = cond b (warning 1 (some (entity 1 n)) ∷ []) []; ends = maybeEnds es }
+
+abbrev pub draws : LinePlan → Bool
+draws (Use s) = false
+draws NoLine = false
+draws (Draw how) = true
+
+-- what is accepted tells names only of a line that it draws
+pub record EndsTold (c : Checked) (plan : LinePlan) (es : MaybeEnds) : Type 0 where
+  pub told : c ≡ Fine → draws plan ≡ false → maybeEnds es ≡ none
 
 abbrev pub lightAnswer : ℕ → LightPlan → Answer Planned
 lightAnswer n r =
-    checked (r .checked) >> done (record { plan = planOf (r .plan) (drawnOf n (r .line) (r .clamped)); housing = housingOf (r .housing) (r .synthesized) })
+    checked (r .checked) >> done (record { plan = planOf (r .plan) (drawnOf n (r .line) (r .clamped) (r .ends)); housing = housingOf (r .housing) (r .synthesized) })
 
 abbrev pub planAnswer : List ℕ → LightPlan → Answer Planned
 planAnswer lanes = lightAnswer (getD lanes 0 0)
 
 pub record LightRead (lanes : List ℕ) (x : Answer Planned) (r : LightPlan) : Type 0 where
   pub answer : planAnswer lanes r ≡ x
+  pub ends : EndsTold (r .checked) (r .plan) (r .ends)
   pub line : Roomy (r .line)
   pub housing : Roomy (r .housing)
 
@@ -92,7 +103,7 @@ pub record CenterAt (m : Map) (n : ℕ) (asked : Bool) (c : MaybeLine) : Type 0 
   pub room : Roomy (c .line)
 
 pub record StoredRead (m : Map) (s : ℕ) (a : PlacedLine) : Type 0 where
-  pub answer : (n : ℕ) → placedAnswer n a ≡ (present (lineOf m s) 2 (5 ∷ s ∷ []) >>= λ l. done (record { points = l .geometry; warnings = [] }))
+  pub answer : (n : ℕ) → placedAnswer n a ≡ (present (lineOf m s) 2 (5 ∷ s ∷ []) >>= λ l. done (record { points = l .geometry; warnings = []; ends = none }))
   pub room : Roomy (a .line)
 
 -- where the first lane ends
@@ -101,13 +112,14 @@ endOf o = elim o [ none ↦ f0 | some c ↦ polylineLength c ]
 
 pub record EndRead (m : Map) (lanes : List ℕ) (a : PlacedLine) : Type 0 where
   pub answer : (n : ℕ) → placedAnswer n a
-      ≡ (crossSection m (getD lanes 0 0) (endOf (laneCenterline m (getD lanes 0 0))) lanes >>= λ xs. done (record { points = xs; warnings = [] }))
+      ≡ (crossSection m (getD lanes 0 0) (endOf (laneCenterline m (getD lanes 0 0))) lanes >>= λ x. done (record { points = x .points; warnings = []; ends = none }))
   pub room : Roomy (a .line)
 
 -- whatever follows a plan and its anchor
 pub record AnchorRead (m : Map) (lanes : List ℕ) (plan : LinePlan) (points : List Float) (a : PlacedLine) : Type 0 where
   pub answer : (f : Plan → Polyline → Answer Planned) → (placedAnswer (getD lanes 0 0) a >>= λ p. f (planOf plan p) (p .points))
       ≡ (chosenPlan m lanes plan points >>= λ x. anchorFor m lanes x >>= λ xs. f x xs)
+  pub ends : EndsTold (a .checked) plan (a .ends)
   pub room : Roomy (a .line)
 
 -- ---- the signal above it
@@ -115,5 +127,6 @@ pub record AnchorRead (m : Map) (lanes : List ℕ) (plan : LinePlan) (points : L
 pub record Anchored (center : MaybeLine) (plan : LinePlan) (a : PlacedLine) (given : Option (List Float)) (r : LightPlan) : Type 0 where
   pub answer : (n : ℕ) → lightAnswer n r
       ≡ (placedAnswer n a >>= λ p. housingOn (maybeLine center) (p .points) given >>= λ h. done (record { plan = planOf plan p; housing = h }))
+  pub ends : EndsTold (a .checked) plan (a .ends) → EndsTold (r .checked) (r .plan) (r .ends)
   pub line : Roomy (r .line)
   pub housing : Roomy (r .housing)

@@ -1,5 +1,6 @@
 // A light's plan: what it stops at, where its signal goes, and what is stored of it.
 use centerline::Line;
+use place::MaybeEnds;
 use place::Placement;
 use placing::Checked;
 use placing::MaybeNumber;
@@ -35,13 +36,14 @@ pub struct Housing {
     pub synthesized: bool,
 }
 
-// Where the check is fine: the line's source, the line that is drawn and whether its station was
-// moved, and the housing.
+// Where the check is fine: the line's source, the line that is drawn, whether its station was moved
+// and what its ends are called, and the housing.
 pub struct LightPlan {
     pub checked: Checked,
     pub plan: LinePlan,
     pub line: Line,
     pub clamped: bool,
+    pub ends: MaybeEnds,
     pub housing: Line,
     pub synthesized: bool,
 }

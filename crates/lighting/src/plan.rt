@@ -11,6 +11,7 @@ use edit::SignalRequest;
 use geometry::double::is_finite;
 use map::Found;
 use map::lookup;
+use place::MaybeEnds;
 use place::MaybeLine;
 use place::MaybeSection;
 use place::lines::absent;
@@ -137,10 +138,11 @@ fn stored_line(words: &[u64], coords: &[f64], s: u64) -> PlacedLine
         checked: Checked::Fine,
         line: copied(lookup::points(coords, 2, i, 0, n)),
         clamped: false,
+        ends: MaybeEnds::Nothing,
     }
 }
 
-// The cross-section at the end of the first lane.
+// The cross-section at the end of the first lane. No line is drawn there, so its ends are not told.
 fn end_line(words: &[u64], coords: &[f64], center: MaybeLine, lanes: &[u64]) -> PlacedLine
     requires { ⌜ Readable (now words) (now coords) × CenterAt (mapOf (now words) (now coords)) (getD (now lanes) 0 0) true center ⌝ }
     ensures { λ r. ⌜ EndRead (mapOf (now (words .entry)) (now (coords .entry))) (now (lanes .entry)) r ⌝ }
@@ -154,10 +156,11 @@ fn end_line(words: &[u64], coords: &[f64], center: MaybeLine, lanes: &[u64]) -> 
     let part = &cs[..e];
     match cross_section(words, coords, part, polyline::length::length(part), lanes) {
         MaybeSection::Refused(r) => refused_line(r),
-        MaybeSection::At(s) => PlacedLine {
+        MaybeSection::At(s, _) => PlacedLine {
             checked: Checked::Fine,
             line: across(s),
             clamped: false,
+            ends: MaybeEnds::Nothing,
         },
     }
 }
@@ -189,6 +192,7 @@ fn refused_plan(r: Refusal) -> LightPlan
         plan: LinePlan::NoLine,
         line: centerline::empty(),
         clamped: false,
+        ends: MaybeEnds::Nothing,
         housing: centerline::empty(),
         synthesized: false,
     }
@@ -210,6 +214,7 @@ fn with_housing(
         return refused_plan(r);
     }
     let line = a.line;
+    let ends = a.ends;
     let h = housing_for(center, line, given, cs);
     let checked = h.checked;
     let housing = h.line;
@@ -218,6 +223,7 @@ fn with_housing(
         plan,
         line,
         clamped: a.clamped,
+        ends,
         housing,
         synthesized: h.synthesized,
     }

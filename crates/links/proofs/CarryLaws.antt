@@ -32,6 +32,7 @@ use Rattle.changes.specs.ChangeSet.{ChangeSet, noChanges, normalize, foldStep, 
 use Rattle.changes.specs.Layout.{setWords, countIn, changeSetOf, listsOkIn}
 use Rattle.changes.specs.Running.{foldFits}
 use Rattle.building.specs.Build.{Cleared, EntryAdded}
+use Rattle.place.specs.declared.MaybeEnds.the-variants as ends
 use Rattle.placing.specs.declared.Checked.{Checked}
 use Rattle.placing.specs.declared.Checked.the-variants as k
 use Rattle.placing.specs.Answers.{checked}
@@ -182,11 +183,12 @@ module _ (ws : List ℕ) (cs : List Float) (f : List ℕ) (t : Tally) (s : List 
             taken = takes lent fine draft (linkChanges same n) false in-time alike r h q t0 (ht .set ∙ same-set)
 
             pub out-done : (f′ t1 : List ℕ) → TakenIn f t0 f′ t1 → (ws′ : List ℕ) (u : Tally) → LinksPut ws i lanes crosswalks lines ws′ → u ≡ tallyOf (changeSetOf f′)
-                → LinksEnd lent i b (c.Done n) (record { words = ws′; coords = cs; fold = f′; tally = u; set = t1 })
+                → LinksEnd lent i b (c.Done n ends.Nothing) (record { words = ws′; coords = cs; fold = f′; tally = u; set = t1 })
             out-done f′ t1 w ws′ u p eu = record {
               left = λ edit plan.
-                  ends-done lent fine draft (linkChanges same n) false in-time alike r h q t0 (ht .set ∙ same-set) f′ t1 w ws′ cs u n
-                  (p .map cs (known .sound .sized .coords) ∙ sym (E.draft-map ws cs (known .sound) n i found b)) eu (sym (E.draft-id ws cs (known .sound) n i found b)) .left edit plan;
+                  ends-done lent fine draft (linkChanges same n) false in-time alike r h q t0 (ht .set ∙ same-set) f′ t1 w ws′ cs u n ends.Nothing
+                  (p .map cs (known .sound .sized .coords) ∙ sym (E.draft-map ws cs (known .sound) n i found b)) eu (sym (E.draft-id ws cs (known .sound) n i found b))
+                  (sym (E.draft-ends ws cs (known .sound) n i found b)) .left edit plan;
             }
 
     -- ---- the rule

@@ -75,7 +75,7 @@ edit-is a m = go (ruleOf m (a .rule))
     draft : Rule → RuleBody → Draft
     draft r w =
         let s : Rule = record { num = r .num; body = w; lanes = b .lanes; controlled = b .crosswalks } in
-        record { map = withRules m (replaced (λ x. x .num) s (m .rules)); id = r .num; stored = []; changes = linkChanges (sameLinks r s) (r .num) }
+        record { map = withRules m (replaced (λ x. x .num) s (m .rules)); id = r .num; stored = []; ends = none; changes = linkChanges (sameLinks r s) (r .num) }
 
     go : (o : Option Rule) → (present o 2 (8 ∷ a .rule ∷ []) >>= λ r.
         refuseWhen (twice (a .lanes)) 3 (1 ∷ []) >> (refuseWhen (twice (a .crosswalks)) 3 (2 ∷ []) >> (refuseWhen (twice (a .stopLines)) 3 (3 ∷ [])
@@ -206,6 +206,10 @@ module _ (ws : List ℕ) (cs : List Float) (ok : Sound ws cs) (n i : ℕ) (found
   pub draft-stored : draft .stored ≡ []
   unfolding draftFor
   draft-stored = refl
+
+  pub draft-ends : draft .ends ≡ none
+  unfolding draftFor
+  draft-ends = refl
 
   pub draft-within : withinCeilings (draft .map) ≡ linksFit (getD (rowOf ws 5 i) 1 0) (length (b .lanes)) (length (b .crosswalks)) (length (b .stopLines))
   draft-within = ap withinCeilings draft-map ∙ set-within

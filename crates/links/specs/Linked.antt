@@ -2,6 +2,7 @@
 use Prim.Native.Nat.{ℕ, _≤_}
 use mathlib.Core.Path.{_≡_}
 use mathlib.Core.Bool.{Bool, not}
+use mathlib.Core.Option.{none}
 use mathlib.Core.List.{List, [], _∷_}
 use lib.Ieee.{Float}
 use lib.ListN.{length, getD}
@@ -42,7 +43,7 @@ pub record LinksChecked (ws : List ℕ) (a : RegulatoryLinks) (r : Checked) : Ty
 unfoldable pub draftFor : RegulatoryLinks → Map → Rule → Draft
 draftFor b m r =
     let s = linkedRule r (b .lanes) (b .crosswalks) (b .stopLines) in
-    record { map = withRules m (replaced (λ x. x .num) s (m .rules)); id = r .num; stored = []; changes = linkChanges (sameLinks r s) (r .num) }
+    record { map = withRules m (replaced (λ x. x .num) s (m .rules)); id = r .num; stored = []; ends = none; changes = linkChanges (sameLinks r s) (r .num) }
 
 unfoldable pub risingEdit : RegulatoryLinks → Map → Answer Draft
 risingEdit b m = do

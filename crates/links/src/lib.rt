@@ -6,6 +6,7 @@ use linking::lists::check_lists;
 use linking::sort::sorted_of;
 use map::Found;
 use map::lookup;
+use place::MaybeEnds;
 use placing::Checked;
 use refusal::Refusal;
 ghost use mathlib.Core.Path.{_≡_};
@@ -103,7 +104,7 @@ fn carry_out(
     finishing::take_in(fold, set);
     link_plan::put::links_put(words, i, lanes, crosswalks, lines);
     Answered {
-        called: Called::Done(rule),
+        called: Called::Done(rule, MaybeEnds::Nothing),
         tally: building::tally_of(fold),
     }
 }

@@ -189,14 +189,14 @@ module _ (ws : List ℕ) (cs : List Float) (f : List ℕ) (t : Tally) (s : List 
 
         late-next : p .light .late ≡ leb (2 ^ 64) (draft .map .next)
         unfolding mapOf
-        late-next = late-is ws cs q lamps a p ready ∙ ap (leb (2 ^ 64)) (sym (next-is a (mapOf ws cs) (known .sound .map) (p .plan) (p .line) (p .housing) (p .clamped) (p .synthesized) (ready .group)))
+        late-next = late-is ws cs q lamps a p ready ∙ ap (leb (2 ^ 64)) (sym (next-is a (mapOf ws cs) (known .sound .map) (p .plan) (p .line) (p .housing) (p .clamped) (p .synthesized) (p .ends) (ready .group)))
 
         tried-is : (late : Bool) → p .light ≡ numbersFor late (nextOf ws) (p .plan) (a .group) → tried ≡ lightSet (numbersFor late (mapOf ws cs .next) (p .plan) (a .group)) (p .clamped) (p .synthesized) (a .lanes) (mapOf ws cs .rules)
         unfolding mapOf newTrafficSignal
         tried-is late e = ap (λ (l : Light). lightSet l (p .clamped) (p .synthesized) lanes (mapOf ws cs .rules)) e
 
         draft-set-is : draft .changes ≡ lightSet (numbersFor false (mapOf ws cs .next) (p .plan) (a .group)) (p .clamped) (p .synthesized) (a .lanes) (mapOf ws cs .rules)
-        draft-set-is = changes-are a (mapOf ws cs) (known .sound .map) (p .plan) (p .line) (p .housing) (p .clamped) (p .synthesized) (ready .group)
+        draft-set-is = changes-are a (mapOf ws cs) (known .sound .map) (p .plan) (p .line) (p .housing) (p .clamped) (p .synthesized) (p .ends) (ready .group)
 
         alike : foldFits (foldStep (changeSetOf f) (normalize tried)) ≡ foldFits (foldStep (changeSetOf f) (normalize (draft .changes)))
         alike =
@@ -223,11 +223,11 @@ module _ (ws : List ℕ) (cs : List Float) (f : List ℕ) (t : Tally) (s : List 
           unfolding mapOf newTrafficSignal
           map-stored ws′ cs′ st =
               st .map points given lamps (ready .lamps-read) ∙ ap made (light-is ws cs q lamps a p ready in-time)
-              ∙ sym (map-is a (mapOf ws cs) (known .sound .map) (p .plan) (p .line) (p .housing) (p .clamped) (p .synthesized) (ready .group))
+              ∙ sym (map-is a (mapOf ws cs) (known .sound .map) (p .plan) (p .line) (p .housing) (p .clamped) (p .synthesized) (p .ends) (ready .group))
 
           id-stored : p .light .signal ≡ draft .id
           unfolding mapOf
-          id-stored = ap (λ (l : Light). l .signal) (light-is ws cs q lamps a p ready in-time) ∙ sym (id-is a (mapOf ws cs) (known .sound .map) (p .plan) (p .line) (p .housing) (p .clamped) (p .synthesized) (ready .group))
+          id-stored = ap (λ (l : Light). l .signal) (light-is ws cs q lamps a p ready in-time) ∙ sym (id-is a (mapOf ws cs) (known .sound .map) (p .plan) (p .line) (p .housing) (p .clamped) (p .synthesized) (p .ends) (ready .group))
 
           module _ (t0 : List ℕ) (ht : SetDrafted ws lanes (p .light) (p .clamped) (p .synthesized) t0) where
             same-set : changeSetOf t0 ≡ draft .changes
@@ -237,8 +237,8 @@ module _ (ws : List ℕ) (cs : List Float) (f : List ℕ) (t : Tally) (s : List 
             taken = takes lent fine draft tried (p .light .late) late-next alike r (h .settles cs) e t0 same-set
 
             pub out-done : (f′ t1 : List ℕ) → TakenIn f t0 f′ t1 → (ws′ : List ℕ) (cs′ : List Float) (u : Tally) → StoredAs ws cs lanes q p ws′ cs′ → u ≡ tallyOf (changeSetOf f′)
-                → CallEnds lent draft (c.Done (p .light .signal)) (record { words = ws′; coords = cs′; fold = f′; tally = u; set = t1 })
-            out-done f′ t1 w ws′ cs′ u st eu = ends-done lent fine draft tried (p .light .late) late-next alike r (h .settles cs) e t0 same-set f′ t1 w ws′ cs′ u (p .light .signal) (map-stored ws′ cs′ st) eu id-stored
+                → CallEnds lent draft (c.Done (p .light .signal) (p .ends)) (record { words = ws′; coords = cs′; fold = f′; tally = u; set = t1 })
+            out-done f′ t1 w ws′ cs′ u st eu = ends-done lent fine draft tried (p .light .late) late-next alike r (h .settles cs) e t0 same-set f′ t1 w ws′ cs′ u (p .light .signal) (p .ends) (map-stored ws′ cs′ st) eu id-stored (ready .ends)
 
   -- ---- the whole call
 

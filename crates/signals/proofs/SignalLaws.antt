@@ -26,6 +26,7 @@ use Rattle.map.specs.Updates.{signalOfParts}
 use Rattle.changes.specs.ChangeSet.{ChangeSet, normalize, foldStep}
 use Rattle.changes.specs.ChangeFile.{isBefore, riseAfter, risingRefs}
 use Rattle.changes.specs.Running.{allBelow, foldFits}
+use Rattle.place.specs.declared.MaybeEnds.{MaybeEnds}
 use Rattle.place.proofs.LineLaws.{line-part}
 use Rattle.place.proofs.Sound.{readable}
 use Rattle.edit.specs.declared.SignalRequest.{SignalRequest}
@@ -105,15 +106,15 @@ module _ (m : Map) (lanes : List ℕ) (xs : Polyline) (s : Signal) (n : ℕ) (li
   next-joined (some t) true r = rw (up (fresh m)) (omega arith)
   next-joined (some t) false r = omega arith
 
-module _ (a : NewTrafficSignal) (m : Map) (ok : isMap m ≡ true) (plan : LinePlan) (line housing : Line) (clamped made : Bool) (f : (g : ℕ) → a .group ≡ some g → Joinable m g) where
+module _ (a : NewTrafficSignal) (m : Map) (ok : isMap m ≡ true) (plan : LinePlan) (line housing : Line) (clamped made : Bool) (es : MaybeEnds) (f : (g : ℕ) → a .group ≡ some g → Joinable m g) where
   abbrev planned-as : Planned
-  planned-as = record { plan = planOf plan (drawnOf (getD (a .lanes) 0 0) line clamped); housing = housingOf housing made }
+  planned-as = record { plan = planOf plan (drawnOf (getD (a .lanes) 0 0) line clamped es); housing = housingOf housing made }
 
   abbrev right : Light
   right = numbersFor false (m .next) plan (a .group)
 
   pub map-is : lightDraft a m planned-as .map ≡ lightMap m right (a .lanes) (pointsOf line) (newSignal a (right .signal) (pointsOf housing)) (groupIn m right)
-  map-is = map-order a m ok planned-as f ∙ stored-light a m plan line housing clamped made
+  map-is = map-order a m ok planned-as f ∙ stored-light a m plan line housing clamped made es
 
   pub next-is : lightDraft a m planned-as .map .next ≡ fresh m + spent (lineFor plan (fresh m) .drawn) (a .group)
   unfolding lightMap
@@ -131,7 +132,7 @@ module _ (a : NewTrafficSignal) (m : Map) (ok : isMap m ≡ true) (plan : LinePl
   unfolding lightDraft lineDrawn
   id-is = go plan
     where
-      go : (pl : LinePlan) → fresh (lineDrawn m (planOf pl (drawnOf (getD (a .lanes) 0 0) line clamped)) .map) ≡ numbersFor false (m .next) pl (a .group) .signal
+      go : (pl : LinePlan) → fresh (lineDrawn m (planOf pl (drawnOf (getD (a .lanes) 0 0) line clamped es)) .map) ≡ numbersFor false (m .next) pl (a .group) .signal
       go (Use s) = omega arith
       go NoLine = omega arith
       go (Draw how) = up (fresh m) ∙ omega arith

@@ -77,6 +77,7 @@ fn carry_out(
     ensures { λ r. ⌜ CallEnds (record { words = now (words .entry); coords = now (coords .entry); fold = now (fold .entry); tally = tally; set = now (set .entry) }) (signalDraft (newTrafficSignal (now (lanes .entry)) q (now (points .entry)) (now (given .entry)) (now (lamps .entry))) (mapOf (now (words .entry)) (now (coords .entry))) p) (r .called) (record { words = now (words .exit); coords = now (coords .exit); fold = now (fold .exit); tally = r .tally; set = now (set .exit) }) ⌝ }
 {
     let l = p.light;
+    let ends = p.ends;
     let settled = check_fold(words, fold, lanes, l, p.clamped, p.synthesized);
     if let Checked::Refused(r) = settled {
         return finishing::refused(r, tally);
@@ -85,13 +86,13 @@ fn carry_out(
     finishing::take_in(fold, set);
     store(words, coords, lanes, q, p);
     Answered {
-        called: Called::Done(l.signal),
+        called: Called::Done(l.signal, ends),
         tally: building::tally_of(fold),
     }
 }
 
-// The light stops at the line that is chosen, found or drawn, and lifts what its lanes had there. Answers the signal's number. Given
-// points, a given housing and given lamps come beside the request, as coordinates.
+// The light stops at the line that is chosen, found or drawn, and lifts what its lanes had there. Answers the signal's number, and the names
+// of a drawn line's ends. Given points, a given housing and given lamps come beside the request, as coordinates.
 pub fn add_traffic_signal(
     words: &mut [u64],
     coords: &mut [f64],

@@ -24,7 +24,8 @@ use Rattle.changes.specs.ChangeSet.{ChangeSet, tallyOf, normalize, foldStep}
 use Rattle.changes.specs.Layout.{changeSetOf}
 use Rattle.changes.specs.Running.{foldFits}
 use Rattle.place.specs.Place.{Placed}
-use Rattle.place.specs.Values.{Roomy}
+use Rattle.place.specs.declared.MaybeEnds.{MaybeEnds}
+use Rattle.place.specs.Values.{Roomy, maybeEnds}
 use Rattle.place.proofs.LineLaws.{line-part}
 use Rattle.placing.specs.declared.Checked.{Checked}
 use Rattle.placing.specs.declared.Checked.the-variants as k
@@ -41,7 +42,7 @@ use Rattle.finishing.proofs.CallLaws.{LentFine, lent-fine, lent-refused, plan-r
 use Rattle.finishing.proofs.EndLaws.{ends-refused, not-late, takes, ends-done}
 use Rattle.stop_lines.specs.Stop.{newStopLine, placedDraft, ruleRoom, roomFor, clampedBy, lineChanges, SetDrafted, LineSettles, nextAfter, ruled, LinePlanned}
 use Rattle.stop_lines.proofs.RoomLaws.{within-room, HasRoom, has-room}
-use Rattle.stop_lines.proofs.DraftLaws.{draft-changes, draft-next, draft-map, draft-id, exact, fits-alike}
+use Rattle.stop_lines.proofs.DraftLaws.{draft-changes, draft-next, draft-map, draft-id, draft-ends, exact, fits-alike}
 
 module _ (ws : List ℕ) (cs : List Float) (f : List ℕ) (t : Tally) (s : List ℕ) where
   abbrev lent : Lent
@@ -53,9 +54,9 @@ module _ (ws : List ℕ) (cs : List Float) (f : List ℕ) (t : Tally) (s : List 
 
     -- ---- carried out
 
-    module _ (rule : StopRule) (lanes : List ℕ) (pts : List Float) (clamped : Bool) where
+    module _ (rule : StopRule) (lanes : List ℕ) (pts : List Float) (clamped : Bool) (es : MaybeEnds) where
       abbrev placed : Placed
-      placed = record { points = polylineOf pts; warnings = clampedBy clamped (getD lanes 0 0) }
+      placed = record { points = polylineOf pts; warnings = clampedBy clamped (getD lanes 0 0); ends = maybeEnds es }
 
       abbrev draft : Draft
       draft = placedDraft rule lanes (mapOf ws cs) placed
@@ -95,10 +96,11 @@ module _ (ws : List ℕ) (cs : List Float) (f : List ℕ) (t : Tally) (s : List 
 
             pub out-done : (f′ t1 : List ℕ) → TakenIn f t0 f′ t1 → (ws′ : List ℕ) (cs′ : List Float) (u : Tally)
                 → mapOf ws′ cs′ ≡ ruled (ruleAt rule n) (withLine (mapOf ws cs) (polylineOf pts)) lanes → u ≡ tallyOf (changeSetOf f′)
-                → CallEnds lent draft (c.Done n) (record { words = ws′; coords = cs′; fold = f′; tally = u; set = t1 })
+                → CallEnds lent draft (c.Done n es) (record { words = ws′; coords = cs′; fold = f′; tally = u; set = t1 })
             out-done f′ t1 w ws′ cs′ u em eu =
-                ends-done lent fine draft tried late late-is alike r (h .settles) q t0 same-set f′ t1 w ws′ cs′ u n
+                ends-done lent fine draft tried late late-is alike r (h .settles) q t0 same-set f′ t1 w ws′ cs′ u n es
                 (em ∙ ap (λ (i : ℕ). ruled (ruleAt rule i) (withLine (mapOf ws cs) (polylineOf pts)) lanes) is-fresh ∙ sym (draft-map lanes (mapOf ws cs) placed rule)) eu (is-fresh ∙ sym (draft-id lanes (mapOf ws cs) placed rule))
+                (sym (draft-ends lanes (mapOf ws cs) placed rule))
 
       module _ (within : withinCeilings (draft .map) ≡ true) (few : length pts ≤ 192) where
         pub room-left : HasRoom rule (length lanes) (countOf ws 2) (countOf ws 5)
@@ -129,14 +131,14 @@ module _ (ws : List ℕ) (cs : List Float) (f : List ℕ) (t : Tally) (s : List 
             abbrev pts : List Float
             pts = take (p .line .count * 3) (p .line .coords)
 
-            is-planned : planned (stopLineEdit a) (mapOf ws cs) ≡ done (placedDraft (a .rule) (a .lanes) (mapOf ws cs) (record { points = polylineOf pts; warnings = clampedBy (p .clamped) (getD (a .lanes) 0 0) }))
+            is-planned : planned (stopLineEdit a) (mapOf ws cs) ≡ done (placedDraft (a .rule) (a .lanes) (mapOf ws cs) (record { points = polylineOf pts; warnings = clampedBy (p .clamped) (getD (a .lanes) 0 0); ends = maybeEnds (p .ends) }))
             is-planned = sym (hp .answer) ∙ rw (e, line-part (p .line) (hp .room))
 
-            pub is-within : withinCeilings (placedDraft (a .rule) (a .lanes) (mapOf ws cs) (record { points = polylineOf pts; warnings = clampedBy (p .clamped) (getD (a .lanes) 0 0) }) .map) ≡ true
+            pub is-within : withinCeilings (placedDraft (a .rule) (a .lanes) (mapOf ws cs) (record { points = polylineOf pts; warnings = clampedBy (p .clamped) (getD (a .lanes) 0 0); ends = maybeEnds (p .ends) }) .map) ≡ true
             is-within = plan-within (stopLineEdit a) (mapOf ws cs) _ is-planned
 
             pub is-left : (r : Called) (new : Lent)
-                → CallEnds lent (placedDraft (a .rule) (a .lanes) (mapOf ws cs) (record { points = polylineOf pts; warnings = clampedBy (p .clamped) (getD (a .lanes) 0 0) })) r new
+                → CallEnds lent (placedDraft (a .rule) (a .lanes) (mapOf ws cs) (record { points = polylineOf pts; warnings = clampedBy (p .clamped) (getD (a .lanes) 0 0); ends = maybeEnds (p .ends) })) r new
                 → CallLeft (addStopLine a) lent r new
             unfolding addStopLine
             is-left r new h = h .left (stopLineEdit a) is-planned

@@ -145,6 +145,12 @@ module _ (lanes : List ℕ) (m : Map) (p : Placed) where
   draft-id Marking = refl
   draft-id NoRule = refl
 
+  pub draft-ends : (rule : StopRule) → placedDraft rule lanes m p .ends ≡ p .ends
+  unfolding placedDraft lineDraft ruleAt
+  draft-ends StopSign = refl
+  draft-ends Marking = refl
+  draft-ends NoRule = refl
+
 -- where the numbers are there, the set is the draft's
 pub exact : (rule : StopRule) (n x : ℕ) (w : List Warning) → Following n x → nextAfter rule n < 2 ^ 64 → lineChanges rule n x w ≡ lineChanges rule n (suc n) w
 unfolding nextAfter

@@ -26,7 +26,7 @@ use Rattle.map.specs.Rows.{fresh, withLine}
 use Rattle.map.specs.Tables.{mapOf, isMapTables}
 use Rattle.map.proofs.SoundLaws.{sound}
 use Rattle.place.specs.Place.{Placed, checkLaneList, placeStopLine}
-use Rattle.place.specs.Values.{Roomy}
+use Rattle.place.specs.Values.{Roomy, maybeEnds}
 use Rattle.place.proofs.LineLaws.{line-part, part-long}
 use Rattle.placing.specs.declared.Checked.{Checked}
 use Rattle.placing.specs.declared.Checked.the-variants.{Fine, Refused}
@@ -84,7 +84,7 @@ module _ (l : Line) (room : Roomy l) where
 -- ---- the edit
 
 abbrev drawn : Map → Placed → Draft
-drawn m p = record { map = withLine m (p .points); id = fresh m; stored = p .points; changes = record { created = entity 5 (fresh m) ∷ []; modified = []; deleted = []; warnings = p .warnings } }
+drawn m p = record { map = withLine m (p .points); id = fresh m; stored = p .points; ends = p .ends; changes = record { created = entity 5 (fresh m) ∷ []; modified = []; deleted = []; warnings = p .warnings } }
 
 -- the draft does not go by how the line was placed
 draft-is : (a : NewStopLine) (m : Map) (p : Placed) (rule : StopRule) → lineDraft a (drawn m p) (ruleAt rule (fresh m)) ≡ placedDraft rule (a .lanes) m p
@@ -135,7 +135,7 @@ module _ (ws : List ℕ) (cs : List Float) (a : NewStopLine) where
       module _ (ok : isMapTables ws cs ≡ true) (room : Roomy (p .line)) (e1 : p .checked ≡ Fine) (r : Checked)
           (hr : checked r ≡ endTests (a .rule) (length (a .lanes)) (countOf ws 2) (countOf ws 5) (allPoints ws) (pointsOf (p .line))) where
         abbrev placed : Placed
-        placed = record { points = pointsOf (p .line); warnings = clampedBy (p .clamped) reference }
+        placed = record { points = pointsOf (p .line); warnings = clampedBy (p .clamped) reference; ends = maybeEnds (p .ends) }
 
         abbrev draft : Draft
         draft = placedDraft (a .rule) (a .lanes) m placed

@@ -47,7 +47,7 @@ hasRule NoRule = false
 unfoldable pub placedDraft : StopRule → List ℕ → Map → Placed → Draft
 placedDraft rule lanes m p =
     lineDraft (newStopLine lanes Given [] rule)
-    (record { map = withLine m (p .points); id = fresh m; stored = p .points; changes = record { created = entity 5 (fresh m) ∷ []; modified = []; deleted = []; warnings = p .warnings } })
+    (record { map = withLine m (p .points); id = fresh m; stored = p .points; ends = p .ends; changes = record { created = entity 5 (fresh m) ∷ []; modified = []; deleted = []; warnings = p .warnings } })
     (ruleAt rule (fresh m))
 
 -- room for a rule that lists so many lanes, where there are so many rules

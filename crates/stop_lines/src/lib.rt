@@ -7,6 +7,7 @@ use changes::Tally;
 use edit::Answered;
 use edit::Called;
 use edit::StopRule;
+use place::MaybeEnds;
 use place::Placement;
 use placing::Checked;
 ghost use mathlib.Core.Path.{_≡_};
@@ -19,6 +20,7 @@ ghost use Rattle.refusal.specs.Answer.{done};
 ghost use Rattle.geometry.specs.Polyline.{polylineOf};
 ghost use Rattle.map.specs.Ceilings.{withinCeilings};
 ghost use Rattle.map.specs.Tables.{mapOf};
+ghost use Rattle.place.specs.Values.{maybeEnds};
 ghost use Rattle.edit.specs.Lent.{CallLeft};
 ghost use Rattle.edit.specs.StopLine.{addStopLine};
 ghost use Rattle.finishing.specs.Finish.{lentChecks, CallEnds};
@@ -35,9 +37,10 @@ fn carry_out(
     rule: StopRule,
     points: &[f64],
     clamped: bool,
+    ends: MaybeEnds,
 ) -> Answered
-    requires { ⌜ (lentChecks (record { words = now words; coords = now coords; fold = now fold; tally = tally; set = now set }) ≡ done tt) × (withinCeilings (placedDraft rule (now lanes) (mapOf (now words) (now coords)) (record { points = polylineOf (now points); warnings = clampedBy clamped (getD (now lanes) 0 0) }) .map) ≡ true) × (0 < length (now lanes)) × (length (now points) ≤ 192) ⌝ }
-    ensures { λ r. ⌜ CallEnds (record { words = now (words .entry); coords = now (coords .entry); fold = now (fold .entry); tally = tally; set = now (set .entry) }) (placedDraft rule (now (lanes .entry)) (mapOf (now (words .entry)) (now (coords .entry))) (record { points = polylineOf (now (points .entry)); warnings = clampedBy clamped (getD (now (lanes .entry)) 0 0) })) (r .called) (record { words = now (words .exit); coords = now (coords .exit); fold = now (fold .exit); tally = r .tally; set = now (set .exit) }) ⌝ }
+    requires { ⌜ (lentChecks (record { words = now words; coords = now coords; fold = now fold; tally = tally; set = now set }) ≡ done tt) × (withinCeilings (placedDraft rule (now lanes) (mapOf (now words) (now coords)) (record { points = polylineOf (now points); warnings = clampedBy clamped (getD (now lanes) 0 0); ends = maybeEnds ends }) .map) ≡ true) × (0 < length (now lanes)) × (length (now points) ≤ 192) ⌝ }
+    ensures { λ r. ⌜ CallEnds (record { words = now (words .entry); coords = now (coords .entry); fold = now (fold .entry); tally = tally; set = now (set .entry) }) (placedDraft rule (now (lanes .entry)) (mapOf (now (words .entry)) (now (coords .entry))) (record { points = polylineOf (now (points .entry)); warnings = clampedBy clamped (getD (now (lanes .entry)) 0 0); ends = maybeEnds ends })) (r .called) (record { words = now (words .exit); coords = now (coords .exit); fold = now (fold .exit); tally = r .tally; set = now (set .exit) }) ⌝ }
 {
     let number = map::update::fresh(words);
     let lane = lanes[0];
@@ -50,12 +53,13 @@ fn carry_out(
     finishing::take_in(fold, set);
     storing::store(words, coords, points, rule, number, lanes);
     Answered {
-        called: Called::Done(number),
+        called: Called::Done(number, ends),
         tally: building::tally_of(fold),
     }
 }
 
-// The line goes across the lanes, or where the points are given; the rule lists the lanes. Answers the line's number.
+// The line goes across the lanes, or where the points are given; the rule lists the lanes. Answers the line's number, and the names of its
+// ends where it goes across the lanes.
 pub fn add_stop_line(
     words: &mut [u64],
     coords: &mut [f64],
@@ -78,6 +82,7 @@ pub fn add_stop_line(
     if let Checked::Refused(r) = checked {
         return finishing::refused(r, tally);
     }
+    let ends = placed.ends;
     let line = placed.line;
     let points = line.coords;
     let e = line.count * 3;
@@ -91,5 +96,6 @@ pub fn add_stop_line(
         rule,
         &points[..e],
         placed.clamped,
+        ends,
     )
 }

@@ -30,7 +30,14 @@ same-length-2 : tie.Need-same-length-2
 same-length-2 c = search needs
 
 returns : tie.Need-returns
-returns c = K.out-refused _ _ _ _ _ (c .before .before .before .before .before .before .before .before .before .before .before .before .before .before .before .before .pre .0) (c .before .before .before .before .before .before .before .before .before .before .before .before .before .before .before .before .args .rule) (c .before .before .before .before .before .before .before .before .before .before .before .before .before .before .before .before .args .lanes .now) (c .before .before .before .before .before .before .before .before .before .before .before .before .before .before .before .before .args .points .now) (c .before .before .before .before .before .before .before .before .before .before .before .before .before .before .before .before .args .clamped) _ (c .before .before .before .before .before .before .before .before .fresh .ensures) _ (c .before .before .before .before .before .before .is-late .ensures) _ (c .before .before .before .before .check-fold .ensures) _ (c .before .before .settled .given .1) _ _ (c .refused .ensures)
+returns c =
+    let tried = c .before .before .before .before in
+    let late = tried .before .before in
+    let number = late .before .before in
+    let start′ = number .before .before .before .before .before .before in
+    let start = start′ .before .before in
+    let a = start .args in
+    K.out-refused _ _ _ _ _ (start .pre .0) (a .rule) (a .lanes .now) (a .points .now) (a .clamped) (a .ends) _ (number .fresh .ensures) _ (late .is-late .ensures) _ (tried .check-fold .ensures) _ (c .before .before .settled .given .1) _ _ (c .refused .ensures)
 
 enum-told : tie.Need-enum-told
 enum-told c = search needs
@@ -39,10 +46,30 @@ draft-set-requires : tie.Need-draft-set-requires
 draft-set-requires c κs = K.known _ _ _ _ _ (c .before .before .before .before .before .before .before .before .before .before .before .before .before .before .before .pre .0) .set
 
 take-in-requires : tie.Need-take-in-requires
-take-in-requires c κs = (K.known _ _ _ _ _ (c .before .before .before .before .before .before .before .before .before .before .before .before .before .before .before .before .before .before .before .before .pre .0) .fold, c .before .before .before .before .draft-set .ensures .room, K.taken _ _ _ _ _ (c .before .before .before .before .before .before .before .before .before .before .before .before .before .before .before .before .before .before .before .before .pre .0) (c .before .before .before .before .before .before .before .before .before .before .before .before .before .before .before .before .before .before .before .before .args .rule) (c .before .before .before .before .before .before .before .before .before .before .before .before .before .before .before .before .before .before .before .before .args .lanes .now) (c .before .before .before .before .before .before .before .before .before .before .before .before .before .before .before .before .before .before .before .before .args .points .now) (c .before .before .before .before .before .before .before .before .before .before .before .before .before .before .before .before .before .before .before .before .args .clamped) _ (c .before .before .before .before .before .before .before .before .before .before .before .before .fresh .ensures) _ (c .before .before .before .before .before .before .before .before .before .before .is-late .ensures) _ (c .before .before .before .before .before .before .before .before .check-fold .ensures) (c .before .before .before .before .before .before .enum-told .given .1) _ (c .before .before .before .before .draft-set .ensures))
+take-in-requires c κs =
+    let drafted = c .before .before .before .before in
+    let fine = drafted .before .before in
+    let tried = fine .before .before in
+    let late = tried .before .before in
+    let number = late .before .before in
+    let start′ = number .before .before .before .before .before .before in
+    let start = start′ .before .before in
+    let a = start .args in
+    (K.known _ _ _ _ _ (start .pre .0) .fold, drafted .draft-set .ensures .room, K.taken _ _ _ _ _ (start .pre .0) (a .rule) (a .lanes .now) (a .points .now) (a .clamped) (a .ends) _ (number .fresh .ensures) _ (late .is-late .ensures) _ (tried .check-fold .ensures) (fine .enum-told .given .1) _ (drafted .draft-set .ensures))
 
 store-requires : tie.Need-store-requires
-store-requires c κs = (K.known _ _ _ _ _ (c .before .before .before .before .before .before .before .before .before .before .before .before .before .before .before .before .before .before .before .before .before .before .before .before .before .before .before .pre .0) .sound .sized, K.room-left _ _ _ _ _ (c .before .before .before .before .before .before .before .before .before .before .before .before .before .before .before .before .before .before .before .before .before .before .before .before .before .before .before .pre .0) (c .before .before .before .before .before .before .before .before .before .before .before .before .before .before .before .before .before .before .before .before .before .before .before .before .before .before .before .args .rule) (c .before .before .before .before .before .before .before .before .before .before .before .before .before .before .before .before .before .before .before .before .before .before .before .before .before .before .before .args .lanes .now) (c .before .before .before .before .before .before .before .before .before .before .before .before .before .before .before .before .before .before .before .before .before .before .before .before .before .before .before .args .points .now) (c .before .before .before .before .before .before .before .before .before .before .before .before .before .before .before .before .before .before .before .before .before .before .before .before .before .before .before .args .clamped) (c .before .before .before .before .before .before .before .before .before .before .before .before .before .before .before .before .before .before .before .before .before .before .before .before .before .before .before .pre .1) (c .before .before .before .before .before .before .before .before .before .before .before .before .before .before .before .before .before .before .before .before .before .before .before .before .before .before .before .pre .3) .line, K.room-left _ _ _ _ _ (c .before .before .before .before .before .before .before .before .before .before .before .before .before .before .before .before .before .before .before .before .before .before .before .before .before .before .before .pre .0) (c .before .before .before .before .before .before .before .before .before .before .before .before .before .before .before .before .before .before .before .before .before .before .before .before .before .before .before .args .rule) (c .before .before .before .before .before .before .before .before .before .before .before .before .before .before .before .before .before .before .before .before .before .before .before .before .before .before .before .args .lanes .now) (c .before .before .before .before .before .before .before .before .before .before .before .before .before .before .before .before .before .before .before .before .before .before .before .before .before .before .before .args .points .now) (c .before .before .before .before .before .before .before .before .before .before .before .before .before .before .before .before .before .before .before .before .before .before .before .before .before .before .before .args .clamped) (c .before .before .before .before .before .before .before .before .before .before .before .before .before .before .before .before .before .before .before .before .before .before .before .before .before .before .before .pre .1) (c .before .before .before .before .before .before .before .before .before .before .before .before .before .before .before .before .before .before .before .before .before .before .before .before .before .before .before .pre .3) .rule, K.numbers-left _ _ _ _ _ (c .before .before .before .before .before .before .before .before .before .before .before .before .before .before .before .before .before .before .before .before .before .before .before .before .before .before .before .pre .0) (c .before .before .before .before .before .before .before .before .before .before .before .before .before .before .before .before .before .before .before .before .before .before .before .before .before .before .before .args .rule) (c .before .before .before .before .before .before .before .before .before .before .before .before .before .before .before .before .before .before .before .before .before .before .before .before .before .before .before .args .lanes .now) (c .before .before .before .before .before .before .before .before .before .before .before .before .before .before .before .before .before .before .before .before .before .before .before .before .before .before .before .args .points .now) (c .before .before .before .before .before .before .before .before .before .before .before .before .before .before .before .before .before .before .before .before .before .before .before .before .before .before .before .args .clamped) _ (c .before .before .before .before .before .before .before .before .before .before .before .before .before .before .before .before .before .before .before .fresh .ensures) _ (c .before .before .before .before .before .before .before .before .before .before .before .before .before .before .before .before .before .is-late .ensures) _ (c .before .before .before .before .before .before .before .before .before .before .before .before .before .before .before .check-fold .ensures) (c .before .before .before .before .before .before .before .before .before .before .before .before .before .enum-told .given .1), c .before .before .before .before .before .before .before .before .before .before .before .before .before .before .before .before .before .before .before .before .before .before .before .before .before .before .before .pre .3)
+store-requires c κs =
+    let fine′ = c .before .before .before .before .before .before in
+    let fine′′ = fine′ .before .before .before .before .before .before in
+    let fine = fine′′ .before in
+    let tried = fine .before .before in
+    let late = tried .before .before in
+    let number = late .before .before in
+    let start′ = number .before .before .before .before .before .before in
+    let start = start′ .before .before in
+    let a = start .args in
+    let room = K.room-left _ _ _ _ _ (start .pre .0) (a .rule) (a .lanes .now) (a .points .now) (a .clamped) (a .ends) (start .pre .1) (start .pre .3) in
+    (K.known _ _ _ _ _ (start .pre .0) .sound .sized, room .line, room .rule, K.numbers-left _ _ _ _ _ (start .pre .0) (a .rule) (a .lanes .now) (a .points .now) (a .clamped) (a .ends) _ (number .fresh .ensures) _ (late .is-late .ensures) _ (tried .check-fold .ensures) (fine .enum-told .given .1), start .pre .3)
 
 tally-of-requires : tie.Need-tally-of-requires
 tally-of-requires c κs = omega (arith, K.known _ _ _ _ _ (c .before .before .before .before .before .before .before .before .before .before .before .before .before .before .before .before .before .before .before .before .before .before .before .before .before .before .before .before .before .before .before .before .before .pre .0) .fold-size)
@@ -60,7 +87,20 @@ same-length-6 : tie.Need-same-length-6
 same-length-6 c = search needs
 
 returns-2 : tie.Need-returns-2
-returns-2 c = K.out-done _ _ _ _ _ (c .before .before .before .before .before .before .before .before .before .before .before .before .before .before .before .before .before .before .before .before .before .before .before .before .before .before .before .before .before .before .before .before .before .before .pre .0) (c .before .before .before .before .before .before .before .before .before .before .before .before .before .before .before .before .before .before .before .before .before .before .before .before .before .before .before .before .before .before .before .before .before .before .args .rule) (c .before .before .before .before .before .before .before .before .before .before .before .before .before .before .before .before .before .before .before .before .before .before .before .before .before .before .before .before .before .before .before .before .before .before .args .lanes .now) (c .before .before .before .before .before .before .before .before .before .before .before .before .before .before .before .before .before .before .before .before .before .before .before .before .before .before .before .before .before .before .before .before .before .before .args .points .now) (c .before .before .before .before .before .before .before .before .before .before .before .before .before .before .before .before .before .before .before .before .before .before .before .before .before .before .before .before .before .before .before .before .before .before .args .clamped) _ (c .before .before .before .before .before .before .before .before .before .before .before .before .before .before .before .before .before .before .before .before .before .before .before .before .before .before .fresh .ensures) _ (c .before .before .before .before .before .before .before .before .before .before .before .before .before .before .before .before .before .before .before .before .before .before .before .before .is-late .ensures) _ (c .before .before .before .before .before .before .before .before .before .before .before .before .before .before .before .before .before .before .before .before .before .before .check-fold .ensures) (c .before .before .before .before .before .before .before .before .before .before .before .before .before .before .before .before .before .before .before .before .enum-told .given .1) _ (c .before .before .before .before .before .before .before .before .before .before .before .before .before .before .before .before .before .before .draft-set .ensures) _ _ (c .before .before .before .before .before .before .before .before .before .before .before .before .before .take-in .ensures) _ _ _ (c .before .before .before .before .before .before .store .ensures) (c .tally-of .ensures)
+returns-2 c =
+    let stored = c .before .before .before .before .before .before in
+    let taken′ = stored .before .before .before .before .before .before in
+    let taken = taken′ .before in
+    let drafted = taken .before .before .before .before .before in
+    let fine = drafted .before .before in
+    let tried = fine .before .before in
+    let late = tried .before .before in
+    let number = late .before .before in
+    let start′ = number .before .before .before .before .before .before in
+    let start = start′ .before .before in
+    let a = start .args in
+    K.out-done _ _ _ _ _ (start .pre .0) (a .rule) (a .lanes .now) (a .points .now) (a .clamped) (a .ends) _ (number .fresh .ensures) _ (late .is-late .ensures) _ (tried .check-fold .ensures) (fine .enum-told .given .1) _ (drafted .draft-set .ensures) _ _ (taken .take-in .ensures)
+    _ _ _ (stored .store .ensures) (c .tally-of .ensures)
 
 pub carry-out-spec : {M : Type 1} → statement M
 carry-out-spec =

@@ -48,7 +48,12 @@ returns-2 : tie.Need-returns-2
 returns-2 c = end-refused _ (c .before .before .before .before .before .before .before .before .before .before .before .before .before .before .before .args .lanes .now) (c .before .before .before .before .before .before .before .before .before .before .before .before .before .before .before .args .center) (c .before .before .before .before .before .before .before .before .before .before .before .before .before .before .before .pre .1) (c .before .before .before .before .before .before .before .before .before .before .if1 .left) _ (c .before .before .before .before .before .length .ensures) _ (c .before .before .before .before .cross-section .ensures) _ _ (c .before .before .r .given .1) (c .refused-line2 .ensures)
 
 returns-3 : tie.Need-returns-3
-returns-3 c = end-placed _ (c .before .before .before .before .before .before .before .before .before .before .before .before .before .before .before .args .lanes .now) (c .before .before .before .before .before .before .before .before .before .before .before .before .before .before .before .args .center) (c .before .before .before .before .before .before .before .before .before .before .before .before .before .before .before .pre .1) (c .before .before .before .before .before .before .before .before .before .before .if1 .left) _ (c .before .before .before .before .before .length .ensures) _ (c .before .before .before .before .cross-section .ensures) _ _ (c .before .before .s .given .1) (c .across .ensures) (long-across c)
+returns-3 c =
+    let measured = c .before .before .before .before .before in
+    let there = measured .before .before .before .before .before in
+    let start = there .before .before .before .before .before in
+    end-placed _ (start .args .lanes .now) (start .args .center) (start .pre .1) (there .if1 .left) _ (measured .length .ensures) _ (c .before .before .before .before .cross-section .ensures) _ _ _
+    (c .before .before .s .given .1) (c .across .ensures) (long-across c)
 
 pub end-line-spec : {M : Type 1} → statement M
 end-line-spec =
