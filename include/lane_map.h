@@ -25,14 +25,20 @@ extern "C" {
 #define LANE_MAP_COORDS 105280 /* coords: the map's coordinates */
 #define LANE_MAP_SET 3556      /* fold:   the running fold; set: the change set of the last accepted call */
 #define LANE_MAP_ROW 28        /* a row of a list of calls */
-#define LANE_MAP_ANSWER 4      /* an answer */
+#define LANE_MAP_ANSWER 9      /* an answer */
 #define LANE_MAP_NO_CALL 255   /* the answer to what is no call */
 
 /* The tally: how many entries the running fold has as created, modified and deleted.
 
-   An answer is four words, and its first word is the result too:
-     0 done, 1 to 14 the refusal, 255 no such call; the number of the record that was made or linked; the two details of a refusal.
-     A word that has nothing to say is 0.
+   An answer is LANE_MAP_ANSWER words, and its first word is the result too:
+     0 what came of it: 0 done, 1 to 14 the refusal, 255 no such call
+     1 the number of the record that was made or linked
+     2, 3 the two details of a refusal
+     4 whether the ends of the line are named: 1 for a line that the call has drawn across lanes, else 0
+     5, 6 the left end: the lane, and the side of it on whose boundary the end lies (0 left, 1 right); 7, 8 the right end
+     A word that has nothing to say is 0. Ends are named by a stop line with placement 0 or 1 and by a light that draws its line so; a line
+     of given points, a line that is on the map already, a light without a line, links and refusals name none. Where several boundaries lie
+     as far out as the end, it has the name of the first: lanes in the order of the call's list, left before right.
 
    No such call: a number that the call reads is no case of its enum, or a part of a pool that it reads does not lie within the pool.
    12 and 13 come before it, as before every other answer. What a call does not read is not looked at and may be anything: below,
@@ -55,7 +61,7 @@ uint64_t lane_map_add_stop_line(
     uint64_t *words, size_t words_len, double *coords, size_t coords_len,
     uint64_t *fold, size_t fold_len, uint64_t tally[3], uint64_t *set, size_t set_len,
     const uint64_t *lanes, size_t lanes_len, uint64_t placement, double measure,
-    const double *given, size_t given_len, uint64_t rule, uint64_t answer[4]);
+    const double *given, size_t given_len, uint64_t rule, uint64_t answer[LANE_MAP_ANSWER]);
 
 /* A traffic light.
    numbers: 0 choice of the line (0 automatic, 1 existing, 2 new, 3 none)
@@ -79,14 +85,14 @@ uint64_t lane_map_add_traffic_signal(
     uint64_t *fold, size_t fold_len, uint64_t tally[3], uint64_t *set, size_t set_len,
     const uint64_t *lanes, size_t lanes_len, const uint64_t numbers[17], double measure, double height,
     const double *points, size_t points_len, const double *housing, size_t housing_len,
-    const double *lamps, size_t lamps_len, uint64_t answer[4]);
+    const double *lamps, size_t lamps_len, uint64_t answer[LANE_MAP_ANSWER]);
 
 /* The lanes, crosswalks and stop lines of a rule. */
 uint64_t lane_map_set_regulatory_links(
     uint64_t *words, size_t words_len, double *coords, size_t coords_len,
     uint64_t *fold, size_t fold_len, uint64_t tally[3], uint64_t *set, size_t set_len,
     uint64_t rule, const uint64_t *lanes, size_t lanes_len, const uint64_t *crosswalks, size_t crosswalks_len,
-    const uint64_t *stop_lines, size_t stop_lines_len, uint64_t answer[4]);
+    const uint64_t *stop_lines, size_t stop_lines_len, uint64_t answer[LANE_MAP_ANSWER]);
 
 /* A list of calls, carried out one after another: rows of 28 words; their lists stand in two pools. A place and a count name a part
    of a pool. Words after the last whole row are passed over. A part that the call reads must lie within its pool, also where it is empty; else the row is no such call (255), and the
@@ -97,7 +103,7 @@ uint64_t lane_map_set_regulatory_links(
                 the housing, 26, 27 of the lamps, in reals
      links:     3 rule, 4, 5 crosswalks, 6, 7 stop lines, in lists
    Words that are not named, and those of a part that the call does not read, may be anything.
-   answers: four words a row. The result: 0, or, where nothing was carried out, 12 or 13 as a single call has them, then 14 where
+   answers: LANE_MAP_ANSWER words a row. The result: 0, or, where nothing was carried out, 12 or 13 as a single call has them, then 14 where
    answers is too short; so for a list without rows too. */
 uint64_t lane_map_run_calls(
     uint64_t *words, size_t words_len, double *coords, size_t coords_len,

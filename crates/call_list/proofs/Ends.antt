@@ -26,6 +26,7 @@ use Rattle.finishing.proofs.CallLaws.{lent-fine}
 use Rattle.run.specs.Run.{Edit, runAll}
 use Rattle.run.specs.Law.{RunLaw}
 use Rattle.run.proofs.Runs.{run-append, run-law}
+use Rattle.call_list.specs.Reply.{replyLength}
 use Rattle.call_list.specs.declared.Ran.{Ran}
 use Rattle.call_list.specs.declared.Ran.the-variants as R
 use Rattle.call_list.specs.Step.{Fitting, Held, heldOf}
@@ -36,13 +37,13 @@ use Rattle.call_list.proofs.Walk.{walk, told, walk-state, walk-set, tol
 -- ---- room for the answers
 
 module _ (n : ℕ) (answers : List ℕ) where
-  pub no-room : length answers / 4 < n → refused 14 [] ≡ roomAnswer n answers
+  pub no-room : length answers / replyLength < n → refused 14 [] ≡ roomAnswer n answers
   unfolding roomAnswer
-  no-room h = rw (lt-ltb (length answers) (n * 4) (omega (arith, div-add-mod' (length answers) 4)))
+  no-room h = rw (lt-ltb (length answers) (n * replyLength) (omega (arith, div-add-mod' (length answers) replyLength)))
 
-  pub has-room : n ≤ length answers / 4 → done n ≡ roomAnswer n answers
+  pub has-room : n ≤ length answers / replyLength → done n ≡ roomAnswer n answers
   unfolding roomAnswer
-  has-room h = rw (le-ltb (length answers) (n * 4) (omega (arith, div-add-mod' (length answers) 4)))
+  has-room h = rw (le-ltb (length answers) (n * replyLength) (omega (arith, div-add-mod' (length answers) replyLength)))
 
 -- ---- what is tested of a list of calls
 
@@ -58,19 +59,19 @@ module _ (l : Lent) (n : ℕ) (answers : List ℕ) where
 -- what is known where nothing is refused
 pub record AllFit (l : Lent) (a : List ℕ) (n m : ℕ) : Type 0 where
   pub tables : Fitting l
-  pub answers : m * 4 ≤ length a
+  pub answers : m * replyLength ≤ length a
   pub count : m ≡ n
 
 not-done : {A : Type 0} (m k : ℕ) (ds : List ℕ) → _≡_ {A = Answer ℕ} (done m) (refused k ds) → A
 not-done m k ds q = absurd (let z : _≡_ {A = ℕ} 0 1 = cc in let u : ⊥ = omega arith in u)
 
-pub room-there : (answers : List ℕ) (n m : ℕ) → done m ≡ roomAnswer n answers → (m * 4 ≤ length answers) × (m ≡ n)
+pub room-there : (answers : List ℕ) (n m : ℕ) → done m ≡ roomAnswer n answers → (m * replyLength ≤ length answers) × (m ≡ n)
 unfolding roomAnswer
-room-there answers n m h = go (ltb (length answers) (n * 4)) refl h
+room-there answers n m h = go (ltb (length answers) (n * replyLength)) refl h
   where
-    go : (b : Bool) → ltb (length answers) (n * 4) ≡ b → done m ≡ (refuseWhen b 14 [] >> done n) → (m * 4 ≤ length answers) × (m ≡ n)
+    go : (b : Bool) → ltb (length answers) (n * replyLength) ≡ b → done m ≡ (refuseWhen b 14 [] >> done n) → (m * replyLength ≤ length answers) × (m ≡ n)
     go true q h = not-done m 14 [] h
-    go false q h = let e : m ≡ n = cc in (omega (arith, ltb-false (length answers) (n * 4) q), e)
+    go false q h = let e : m ≡ n = cc in (omega (arith, ltb-false (length answers) (n * replyLength) q), e)
 
 pub all-fit : (l : Lent) (answers : List ℕ) (n m : ℕ) → done m ≡ runAnswer n l answers → AllFit l answers n m
 unfolding runAnswer
@@ -87,11 +88,11 @@ all-fit l answers n m h = go (lentChecks l) refl h
 
 -- the rows, from where their loop ends
 pub rows-left : (f : ℕ → Option Edit) (n : ℕ) (old : Lent) (answers : List ℕ) (new : Lent) (answers′ : List ℕ)
-    → heldOf new ≡ walk (listTo f n) (heldOf old) → answers′ ≡ told (listTo f n) (heldOf old) ++ drop (n * 4) answers → RowsLeft (listTo f n) old answers new answers′
+    → heldOf new ≡ walk (listTo f n) (heldOf old) → answers′ ≡ told (listTo f n) (heldOf old) ++ drop (n * replyLength) answers → RowsLeft (listTo f n) old answers new answers′
 rows-left f n old answers new answers′ held words = record {
   state = ap (λ (x : Held). x .state) held ∙ walk-state (listTo f n) (heldOf old);
   set = ap (λ (x : Held). x .set) held ∙ walk-set (listTo f n) (heldOf old);
-  replied = rw (length-listTo f n) (words ∙ ap (λ (l : List ℕ). l ++ drop (n * 4) answers) (told-replies (listTo f n) (heldOf old)));
+  replied = rw (length-listTo f n) (words ∙ ap (λ (l : List ℕ). l ++ drop (n * replyLength) answers) (told-replies (listTo f n) (heldOf old)));
 }
 
 -- where they are carried out on the end of another run, both together are one run

@@ -24,7 +24,7 @@ unfolding callOf
 call-state e old x new f h = go x (h .answer ∙ lent-run (some e) old f) (h .kept)
   where
     go : (x : Called) → answered x new ≡ runOne e (stateOf old) → (isRefused x ≡ true → new ≡ old) → stateOf new ≡ stateAfter (stateOf old) (runOne e (stateOf old))
-    go (c.Done n) a k = subst (λ (y : Answer Outcome). stateOf new ≡ stateAfter (stateOf old) y) a refl
+    go (c.Done n es) a k = subst (λ (y : Answer Outcome). stateOf new ≡ stateAfter (stateOf old) y) a refl
     go (c.Refused y) a k = subst (λ (z : Answer Outcome). stateOf new ≡ stateAfter (stateOf old) z) a (ap stateOf (k refl))
 
 made-state : (es : List Edit) (old new : Lent) → Fitting old → CallsMade es old new → stateOf new ≡ runAll es (stateOf old)

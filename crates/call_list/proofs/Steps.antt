@@ -78,11 +78,11 @@ unfolding callOf
 step-done e old x new r h w = record { reply = w .words new ∙ ap replyOf (h .answer); held = held x (h .answer) (h .kept); kept = kept x (h .kept) (w .words new) }
   where
     held : (x : Called) → answered x new ≡ lentCall (runOne e) old → (isRefused x ≡ true → new ≡ old) → heldOf new ≡ heldAfter (heldOf old) (lentCall (runOne e) old)
-    held (c.Done n) a k = subst (λ (x : Answer Outcome). heldOf new ≡ heldAfter (heldOf old) x) a refl
+    held (c.Done n es) a k = subst (λ (x : Answer Outcome). heldOf new ≡ heldAfter (heldOf old) x) a refl
     held (c.Refused y) a k = subst (λ (x : Answer Outcome). heldOf new ≡ heldAfter (heldOf old) x) a (ap heldOf (k refl))
 
     kept : (x : Called) → (isRefused x ≡ true → new ≡ old) → replyWords r ≡ replyOf (answered x new) → eqb (r .what) 0 ≡ false → new ≡ old
-    kept (c.Done n) k w q = clash (eq-eqb (r .what) 0 (ap (λ (l : List ℕ). getD l 0 0) w)) q
+    kept (c.Done n es) k w q = clash (eq-eqb (r .what) 0 (ap (λ (l : List ℕ). getD l 0 0) w)) q
     kept (c.Refused y) k w q = k refl
 
 pub step-none : (old : Lent) (k : Checked) (r : Reply) → checked k ≡ lentChecks old → NoCallReplied k r → StepLeft none old r old

@@ -18,10 +18,11 @@ use Rattle.edit.specs.Edit.{Outcome}
 use Rattle.edit.specs.Lent.{Lent, lentCall}
 use Rattle.run.specs.Run.{Edit, runOne, runAll, setsOf, stateAfter, setsAfter}
 use Rattle.call_list.specs.declared.Reply.{Reply}
-use Rattle.call_list.specs.Reply.{replyOf, replyWords}
+use Rattle.call_list.specs.Reply.{replyOf, replyLength, replyWords}
 use Rattle.call_list.specs.Step.{Fitting, Held, heldOf, heldAfter, callOf, StepLeft}
 use Rattle.call_list.specs.Rows.{editsOf}
 use Rattle.call_list.specs.Ran.{replies, lastSet}
+use Rattle.call_list.proofs.Replies.{reply-length}
 use Rattle.call_list.proofs.Steps.{lent-run, no-call-held}
 
 -- where the rows lead, and their answers
@@ -83,23 +84,23 @@ told-step o rows old r new f s =
 
 -- ---- answers as they are stored
 
-module _ (l row : List ℕ) (at : ℕ) (e : length row ≡ 4) (h : at + 4 ≤ length l) where
+module _ (l row : List ℕ) (at : ℕ) (e : length row ≡ replyLength) (h : at + replyLength ≤ length l) where
   before-row : length (take at l) ≡ at
   before-row = simp length-take (omega arith)
 
-  row-end : length (take at l ++ row) ≡ at + 4
+  row-end : length (take at l ++ row) ≡ at + replyLength
   row-end = length-append (take at l) row ∙ go before-row
     where
-      go : length (take at l) ≡ at → length (take at l) + length row ≡ at + 4
+      go : length (take at l) ≡ at → length (take at l) + length row ≡ at + replyLength
       go q = omega (arith, q, e)
 
-  stored-take : take (at + 4) (pasted l at row 4) ≡ take at l ++ row
+  stored-take : take (at + replyLength) (pasted l at row replyLength) ≡ take at l ++ row
   unfolding pasted
-  stored-take = rw (take-all 4 row (omega arith)) (take-at (take at l ++ row) (drop (at + 4) l) (at + 4) row-end)
+  stored-take = rw (take-all replyLength row (omega arith)) (take-at (take at l ++ row) (drop (at + replyLength) l) (at + replyLength) row-end)
 
-  stored-drop : drop (at + 4) (pasted l at row 4) ≡ drop (at + 4) l
+  stored-drop : drop (at + replyLength) (pasted l at row replyLength) ≡ drop (at + replyLength) l
   unfolding pasted
-  stored-drop = rw (take-all 4 row (omega arith)) (drop-at (take at l ++ row) (drop (at + 4) l) (at + 4) row-end)
+  stored-drop = rw (take-all replyLength row (omega arith)) (drop-at (take at l ++ row) (drop (at + replyLength) l) (at + replyLength) row-end)
 
 -- ---- the loop
 
@@ -108,8 +109,8 @@ pub record Going (f : ℕ → Option Edit) (n : ℕ) (h : Held) (answers : List 
   pub at : i ≤ n
   pub fits : Fitting l
   pub held : walk (tab f i (n - i)) (heldOf l) ≡ walk (listTo f n) h
-  pub words : take (i * 4) answers′ ++ told (tab f i (n - i)) (heldOf l) ≡ told (listTo f n) h
-  pub rest : drop (i * 4) answers′ ≡ drop (i * 4) answers
+  pub words : take (i * replyLength) answers′ ++ told (tab f i (n - i)) (heldOf l) ≡ told (listTo f n) h
+  pub rest : drop (i * replyLength) answers′ ≡ drop (i * replyLength) answers
   pub size : length answers′ ≡ length answers
 
 pub going-start : (f : ℕ → Option Edit) (n : ℕ) (l : Lent) (answers : List ℕ) → Fitting l → Going f n (heldOf l) answers 0 l answers
@@ -123,36 +124,36 @@ going-start f n l answers q = record {
 }
 
 pub going-on : (f : ℕ → Option Edit) (n : ℕ) (h : Held) (answers : List ℕ) (i : ℕ) (l : Lent) (answers′ : List ℕ) (r : Reply) (l′ : Lent)
-    → n * 4 ≤ length answers → i < n → Fitting l′ → StepLeft (f i) l r l′ → Going f n h answers i l answers′
-    → Going f n h answers (i + 1) l′ (pasted answers′ (i * 4) (replyWords r) 4)
+    → n * replyLength ≤ length answers → i < n → Fitting l′ → StepLeft (f i) l r l′ → Going f n h answers i l answers′
+    → Going f n h answers (i + 1) l′ (pasted answers′ (i * replyLength) (replyWords r) replyLength)
 going-on f n h answers i l answers′ r l′ room q fit s g =
-    let e : (i + 1) * 4 ≡ i * 4 + 4 = omega arith in
-    let z : i * 4 + 4 ≤ length answers′ = omega (arith, g .size) in
+    let e : (i + 1) * replyLength ≡ i * replyLength + replyLength = omega arith in
+    let z : i * replyLength + replyLength ≤ length answers′ = omega (arith, g .size) in
     record {
       at = omega arith;
       fits = fit;
       held = sym (walk-step (f i) (tab f (i + 1) (n - (i + 1))) l r l′ (g .fits) s) ∙ ap (λ (t : List (Option Edit)). walk t (heldOf l)) (sym (tab-step f n i q)) ∙ g .held;
       words =
-          rw (e, stored-take answers′ (replyWords r) (i * 4) refl z)
-          (append-assoc (take (i * 4) answers′) (replyWords r) (told (tab f (i + 1) (n - (i + 1))) (heldOf l′))
-          ∙ ap (λ (t : List ℕ). take (i * 4) answers′ ++ t) (sym (told-step (f i) (tab f (i + 1) (n - (i + 1))) l r l′ (g .fits) s) ∙ ap (λ (t : List (Option Edit)). told t (heldOf l)) (sym (tab-step f n i q)))
+          rw (e, stored-take answers′ (replyWords r) (i * replyLength) (reply-length r) z)
+          (append-assoc (take (i * replyLength) answers′) (replyWords r) (told (tab f (i + 1) (n - (i + 1))) (heldOf l′))
+          ∙ ap (λ (t : List ℕ). take (i * replyLength) answers′ ++ t) (sym (told-step (f i) (tab f (i + 1) (n - (i + 1))) l r l′ (g .fits) s) ∙ ap (λ (t : List (Option Edit)). told t (heldOf l)) (sym (tab-step f n i q)))
           ∙ g .words);
-      rest = rw (e, stored-drop answers′ (replyWords r) (i * 4) refl z) (drop-more answers′ answers (i * 4) (g .rest));
-      size = length-pasted answers′ (i * 4) (replyWords r) 4 z (omega arith) ∙ g .size;
+      rest = rw (e, stored-drop answers′ (replyWords r) (i * replyLength) (reply-length r) z) (drop-more answers′ answers (i * replyLength) (g .rest));
+      size = length-pasted answers′ (i * replyLength) (replyWords r) replyLength z (omega (arith, reply-length r)) ∙ g .size;
     }
   where
-    drop-more : (a b : List ℕ) (k : ℕ) → drop k a ≡ drop k b → drop (k + 4) a ≡ drop (k + 4) b
-    drop-more a b k p = sym (drop-drop 4 k a) ∙ ap (drop 4) p ∙ drop-drop 4 k b
+    drop-more : (a b : List ℕ) (k : ℕ) → drop k a ≡ drop k b → drop (k + replyLength) a ≡ drop (k + replyLength) b
+    drop-more a b k p = sym (drop-drop replyLength k a) ∙ ap (drop replyLength) p ∙ drop-drop replyLength k b
 
 -- the end
 pub going-end : (f : ℕ → Option Edit) (n : ℕ) (h : Held) (answers : List ℕ) (i : ℕ) (l : Lent) (answers′ : List ℕ) → n ≤ i → Going f n h answers i l answers′
-    → (heldOf l ≡ walk (listTo f n) h) × (answers′ ≡ told (listTo f n) h ++ drop (n * 4) answers)
+    → (heldOf l ≡ walk (listTo f n) h) × (answers′ ≡ told (listTo f n) h ++ drop (n * replyLength) answers)
 unfolding walk told
 going-end f n h answers i l answers′ q g =
     let e : i ≡ n = omega (arith, g .at) in
     let none = tab-none f n i q in (
       ap (λ (t : List (Option Edit)). walk t (heldOf l)) (sym none) ∙ g .held,
-      sym (take-append-drop (i * 4) answers′)
-          ∙ ap (λ (t : List ℕ). t ++ drop (i * 4) answers′) (sym (append-nil (take (i * 4) answers′)) ∙ ap (λ (t : List (Option Edit)). take (i * 4) answers′ ++ told t (heldOf l)) (sym none) ∙ g .words)
-          ∙ ap (λ (t : List ℕ). told (listTo f n) h ++ t) (g .rest ∙ ap (λ (k : ℕ). drop (k * 4) answers) e),
+      sym (take-append-drop (i * replyLength) answers′)
+          ∙ ap (λ (t : List ℕ). t ++ drop (i * replyLength) answers′) (sym (append-nil (take (i * replyLength) answers′)) ∙ ap (λ (t : List (Option Edit)). take (i * replyLength) answers′ ++ told t (heldOf l)) (sym none) ∙ g .words)
+          ∙ ap (λ (t : List ℕ). told (listTo f n) h ++ t) (g .rest ∙ ap (λ (k : ℕ). drop (k * replyLength) answers) e),
     )

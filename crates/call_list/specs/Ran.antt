@@ -22,7 +22,7 @@ use Rattle.call_list.specs.Reply.{replyOf, replyLength}
 use Rattle.call_list.specs.Step.{callOf}
 use Rattle.call_list.specs.Rows.{editsOf}
 
--- the answers, four words a row, each on what the rows before it left
+-- the answers, row by row, each on what the rows before it left
 unfoldable pub replies : List (Option Edit) → State → List ℕ
 replies [] s = []
 replies (row ∷ rows) s = let a = callOf row s in replyOf a ++ replies rows (stateAfter s a)
@@ -52,7 +52,7 @@ runAnswer n l answers = do
   lentChecks l
   roomAnswer n answers
 
--- what the rows leave: the definition's state, the change set of the last call that was accepted, and each row's answer in four words; the words after stay
+-- what the rows leave: the definition's state, the change set of the last call that was accepted, and each row's answer in words; the words after stay
 pub record RowsLeft (rows : List (Option Edit)) (old : Lent) (answers : List ℕ) (new : Lent) (answers′ : List ℕ) : Type 0 where
   pub state : stateOf new ≡ runAll (editsOf rows) (stateOf old)
   pub set : changeSetOf (new .set) ≡ lastSet (changeSetOf (old .set)) (setsOf (editsOf rows) (stateOf old))

@@ -1,10 +1,13 @@
--- What a call answers, in four words: 0 done, 1 to 14 the refusal, 255 no such call; the number answered; the two details of a refusal. A word that has nothing to
--- say is 0.
+-- What a call answers, in words: 0 done, 1 to 14 the refusal, 255 no such call; the number answered; the two details of a refusal; then whether the ends of a line
+-- are named, and lane and side of its left end and of its right end. A word that has nothing to say is 0.
 use Prim.Native.Nat.{ℕ}
 use mathlib.Core.Path.{_≡_}
+use mathlib.Core.Option.{none}
 use mathlib.Core.List.{List, [], _∷_}
 use lib.ListN.{getD}
 use Rattle.refusal.specs.Answer.{Answer, refused, done, _>>_}
+use Rattle.place.specs.EndNames.{endsWords}
+use Rattle.place.specs.Values.{maybeEnds}
 use Rattle.placing.specs.declared.Checked.{Checked}
 use Rattle.placing.specs.Answers.{checked}
 use Rattle.edit.specs.declared.Called.{Called}
@@ -13,18 +16,18 @@ use Rattle.edit.specs.Lent.{Lent, answered}
 use Rattle.call_list.specs.declared.Reply.{Reply}
 
 abbrev pub replyOf : Answer Outcome → List ℕ
-replyOf (refused n ds) = n ∷ 0 ∷ getD ds 0 0 ∷ getD ds 1 0 ∷ []
-replyOf (done o) = 0 ∷ o .id ∷ 0 ∷ 0 ∷ []
+replyOf (refused n ds) = n ∷ 0 ∷ getD ds 0 0 ∷ getD ds 1 0 ∷ endsWords none
+replyOf (done o) = 0 ∷ o .id ∷ 0 ∷ 0 ∷ endsWords (o .ends)
 
 abbrev pub replyLength : ℕ
-replyLength = 4
+replyLength = 9
 
 -- the answer to what is no call: a number that no refusal has
 abbrev pub noSuchCall : ℕ
 noSuchCall = 255
 
 abbrev pub replyWords : Reply → List ℕ
-replyWords r = r .what ∷ r .number ∷ r .detail ∷ r .second ∷ []
+replyWords r = r .what ∷ r .number ∷ r .detail ∷ r .second ∷ endsWords (maybeEnds (r .ends))
 
 -- the words of the code's answer, whatever memory it leaves
 pub record Replied (c : Called) (r : Reply) : Type 0 where

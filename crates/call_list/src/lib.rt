@@ -2,6 +2,9 @@
 use changes::Tally;
 use edit::Answered;
 use edit::Called;
+use place::EndName;
+use place::LaneSide;
+use place::MaybeEnds;
 use placing::Checked;
 use refusal::Refusal;
 ghost use mathlib.Core.Path.{_≡_};
@@ -12,6 +15,7 @@ ghost use lib.Dec.{eqb, leb};
 ghost use lib.ListN.{length, getD};
 ghost use Rattle.refusal.specs.Refusal.{refusalDetails};
 ghost use Rattle.rows.specs.Rows.{cut, pasted};
+ghost use Rattle.place.specs.EndNames.{sideNumber};
 ghost use Rattle.boundary.specs.Numbers.{flag};
 ghost use Rattle.call_list.specs.Reply.{Replied, NoCallReplied, replyLength, replyWords};
 ghost use Rattle.call_list.specs.Step.{StepLeft};
@@ -21,17 +25,18 @@ ghost use Rattle.call_list.specs.Ran.{ran, roomAnswer, runAnswer};
 // The words of a row, and of an answer.
 pub const ROW: usize = 28;
 
-pub const ANSWER: usize = 4;
+pub const ANSWER: usize = 9;
 
 // The answer to what is no call: no refusal has this number.
 const NO_SUCH_CALL: u64 = 255;
 
-// An answer in four words: 0 done, 1 to 14 the refusal, 255 no such call; the number answered; the details of a refusal.
+// An answer: 0 done, 1 to 14 the refusal, 255 no such call; the number answered; the details of a refusal; the names of a line's ends.
 pub struct Reply {
     pub what: u64,
     pub number: u64,
     pub detail: u64,
     pub second: u64,
+    pub ends: MaybeEnds,
 }
 
 // An answer, and the tally that is right after it.
@@ -99,17 +104,19 @@ pub fn reply_of(c: Called) -> Reply
     ensures { λ r. ⌜ Replied c r ⌝ }
 {
     match c {
-        Called::Done(n) => Reply {
+        Called::Done(n, ends) => Reply {
             what: 0,
             number: n,
             detail: 0,
             second: 0,
+            ends,
         },
         Called::Refused(x) => Reply {
             what: refusal::number(x),
             number: 0,
             detail: detail_of(x),
             second: second_of(x),
+            ends: MaybeEnds::Nothing,
         },
     }
 }
@@ -124,6 +131,7 @@ fn no_call_reply(c: Checked) -> Reply
             number: 0,
             detail: 0,
             second: 0,
+            ends: MaybeEnds::Nothing,
         },
         Checked::Refused(x) => reply_of(Called::Refused(x)),
     }
@@ -307,12 +315,47 @@ pub fn links_within(row: &[u64], lists: &[u64]) -> bool
     within(lists.len(), row[6], row[7])
 }
 
-// The four words of an answer, from index at.
+fn side_number(e: EndName) -> u64
+    ensures { λ r. ⌜ r ≡ sideNumber (e .side) ⌝ }
+{
+    let side = e.side;
+    match side {
+        LaneSide::Left => 0,
+        LaneSide::Right => 1,
+    }
+}
+
+// The words of an answer.
+pub fn reply_words(r: Reply) -> [u64; ANSWER]
+    ensures { λ x. ⌜ x ≡ replyWords r ⌝ }
+{
+    let ends = r.ends;
+    let MaybeEnds::At(names) = ends else {
+        return [r.what, r.number, r.detail, r.second, 0, 0, 0, 0, 0];
+    };
+    let left = names.left;
+    let right = names.right;
+    let a = side_number(left);
+    let b = side_number(right);
+    [
+        r.what,
+        r.number,
+        r.detail,
+        r.second,
+        1,
+        left.lane,
+        a,
+        right.lane,
+        b,
+    ]
+}
+
+// The words of an answer, from index at.
 pub fn put_reply(answers: &mut [u64], at: usize, r: Reply)
     requires { ⌜ at + replyLength ≤ length (now answers) ⌝ }
     ensures { λ _. ⌜ now (answers .exit) ≡ pasted (now (answers .entry)) at (replyWords r) replyLength ⌝ }
 {
-    let row = [r.what, r.number, r.detail, r.second];
+    let row = reply_words(r);
     rows::put(answers, at, &row);
 }
 

@@ -1,5 +1,7 @@
-// The edits for programs in other languages: numbers and slices. The tally is three words, an answer four: 0 done, 1 to 14 the refusal,
-// 255 no such call; the number answered; the two details of a refusal. The first word is the result too.
+// The edits for programs in other languages: numbers and slices. The tally is three words, an answer nine: 0 done, 1 to 14 the refusal,
+// 255 no such call; the number answered; the two details of a refusal; whether the ends of a line are named, and lane and side of each.
+// The first word is the result too.
+use call_list::ANSWER;
 use call_list::Carried;
 ghost use mathlib.Core.Path.{_≡_};
 ghost use mathlib.Core.Option.{some};
@@ -9,13 +11,13 @@ ghost use Rattle.tally_words.specs.Words.{tallyIn, tallyWords};
 ghost use Rattle.edit_export.specs.Written.{StepWritten};
 
 // The answer's words, and the tally; the first word is the result.
-fn answer_with(c: Carried, tally: &mut [u64; 3], answer: &mut [u64; 4]) -> u64
+fn answer_with(c: Carried, tally: &mut [u64; 3], answer: &mut [u64; ANSWER]) -> u64
     ensures { λ r. ⌜ (now (tally .exit) ≡ tallyWords (c .tally)) × (now (answer .exit) ≡ replyWords (c .reply)) × (r ≡ c .reply .what) ⌝ }
 {
     let t = c.tally;
     let reply = c.reply;
     tally_words::put_tally(tally, t);
-    *answer = [reply.what, reply.number, reply.detail, reply.second];
+    *answer = call_list::reply_words(reply);
     reply.what
 }
 
@@ -32,7 +34,7 @@ pub extern "C" fn lane_map_add_stop_line(
     measure: f64,
     given: &[f64],
     rule: u64,
-    answer: &mut [u64; 4],
+    answer: &mut [u64; ANSWER],
 ) -> u64
     ensures { λ r. ⌜ StepWritten (lineBy (now (lanes .entry)) placement measure (now (given .entry)) rule) (record { words = now (words .entry); coords = now (coords .entry); fold = now (fold .entry); tally = tallyIn (now (tally .entry)); set = now (set .entry) }) r (now (answer .exit)) (record { words = now (words .exit); coords = now (coords .exit); fold = now (fold .exit); tally = tallyIn (now (tally .exit)); set = now (set .exit) }) ⌝ }
 {
@@ -68,7 +70,7 @@ pub extern "C" fn lane_map_add_traffic_signal(
     points: &[f64],
     housing: &[f64],
     lamps: &[f64],
-    answer: &mut [u64; 4],
+    answer: &mut [u64; ANSWER],
 ) -> u64
     ensures { λ r. ⌜ StepWritten (lightBy (now (lanes .entry)) (now (numbers .entry)) measure height (now (points .entry)) (now (housing .entry)) (now (lamps .entry))) (record { words = now (words .entry); coords = now (coords .entry); fold = now (fold .entry); tally = tallyIn (now (tally .entry)); set = now (set .entry) }) r (now (answer .exit)) (record { words = now (words .exit); coords = now (coords .exit); fold = now (fold .exit); tally = tallyIn (now (tally .exit)); set = now (set .exit) }) ⌝ }
 {
@@ -102,7 +104,7 @@ pub extern "C" fn lane_map_set_regulatory_links(
     lanes: &[u64],
     crosswalks: &[u64],
     stop_lines: &[u64],
-    answer: &mut [u64; 4],
+    answer: &mut [u64; ANSWER],
 ) -> u64
     ensures { λ r. ⌜ StepWritten (some (linksBy rule (now (lanes .entry)) (now (crosswalks .entry)) (now («stop_lines» .entry)))) (record { words = now (words .entry); coords = now (coords .entry); fold = now (fold .entry); tally = tallyIn (now (tally .entry)); set = now (set .entry) }) r (now (answer .exit)) (record { words = now (words .exit); coords = now (coords .exit); fold = now (fold .exit); tally = tallyIn (now (tally .exit)); set = now (set .exit) }) ⌝ }
 {

@@ -1,4 +1,4 @@
-// The three calls by numbers: enums as numbers, and the answer in four words.
+// The three calls by numbers: enums as numbers, and the answer as words have it.
 use call_list::Carried;
 use changes::Tally;
 ghost use mathlib.Core.Path.{_≡_};

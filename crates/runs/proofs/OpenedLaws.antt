@@ -37,6 +37,7 @@ use Rattle.files.proofs.RoundTrip.{map-back}
 use Rattle.edit.specs.Lent.{Lent, stateOf}
 use Rattle.run.specs.Run.{Edit, runAll, setsOf}
 use Rattle.run.specs.Law.{RunLaw}
+use Rattle.call_list.specs.Reply.{replyLength}
 use Rattle.call_list.specs.declared.Ran.{Ran}
 use Rattle.call_list.specs.declared.Ran.the-variants as R
 use Rattle.call_list.specs.Step.{Fitting}
@@ -71,7 +72,7 @@ not-done m k ds q = absurd (let z : _≡_ {A = ℕ} 0 1 = cc in let u : ⊥ = om
 record SetsFit (n m : ℕ) (f s a : List ℕ) : Type 0 where
   fold : length f ≡ setWords
   set : length s ≡ setWords
-  answers : m * 4 ≤ length a
+  answers : m * replyLength ≤ length a
   count : m ≡ n
 
 sets-fit : (n m : ℕ) (fold set answers : List ℕ) → done m ≡ setsAnswer n fold set answers → SetsFit n m fold set answers
@@ -83,9 +84,9 @@ sets-fit n m fold set answers h = go (eqb (length fold) setWords) (eqb (length s
     go true false p q h = not-done m 13 [] h
     go false s p q h = not-done m 13 [] h
 
-sets-done : (n : ℕ) (fold set answers : List ℕ) → length fold ≡ setWords → length set ≡ setWords → n * 4 ≤ length answers → done n ≡ setsAnswer n fold set answers
+sets-done : (n : ℕ) (fold set answers : List ℕ) → length fold ≡ setWords → length set ≡ setWords → n * replyLength ≤ length answers → done n ≡ setsAnswer n fold set answers
 unfolding setsAnswer roomAnswer
-sets-done n fold set answers p q h = rw (eq-eqb (length fold) setWords p, eq-eqb (length set) setWords q, le-ltb (length answers) (n * 4) h)
+sets-done n fold set answers p q h = rw (eq-eqb (length fold) setWords p, eq-eqb (length set) setWords q, le-ltb (length answers) (n * replyLength) h)
 
 -- ---- the whole answer
 

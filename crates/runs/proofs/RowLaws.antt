@@ -15,7 +15,7 @@ use Rattle.edit.specs.Lent.{Lent}
 use Rattle.call_list.specs.declared.Ran.{Ran}
 use Rattle.call_list.specs.declared.Ran.the-variants as R
 use Rattle.call_list.specs.declared.Reply.{Reply}
-use Rattle.call_list.specs.Reply.{replyWords}
+use Rattle.call_list.specs.Reply.{replyLength, replyWords}
 use Rattle.call_list.specs.Step.{Fitting, Held, heldOf, StepLeft}
 use Rattle.call_list.specs.Rows.{rowWords, callAt, rowAt, rowsIn}
 use Rattle.call_list.specs.Ran.{ran, runAnswer, RowsLeft, RunLeft}
@@ -34,7 +34,7 @@ pub first-row : (calls lists : List ℕ) (reals : List Float) (n : ℕ) (old : L
 first-row calls lists reals n old answers m = record { going = going-start (rowAt calls lists reals) n old answers (m .tables); room = m }
 
 next-row′ : (calls lists : List ℕ) (reals : List Float) (n : ℕ) (h : Held) (answers : List ℕ) (i : ℕ) (l : Lent) (answers′ : List ℕ) (r : Reply) (l′ : Lent) (row answers″ : List ℕ)
-    → n * 4 ≤ length answers → i < n → Fitting l′ → StepLeft (callAt row lists reals) l r l′ → row ≡ cut calls (i * rowWords) rowWords → answers″ ≡ pasted answers′ (i * 4) (replyWords r) 4
+    → n * replyLength ≤ length answers → i < n → Fitting l′ → StepLeft (callAt row lists reals) l r l′ → row ≡ cut calls (i * rowWords) rowWords → answers″ ≡ pasted answers′ (i * replyLength) (replyWords r) replyLength
     → Going (rowAt calls lists reals) n h answers i l answers′ → Going (rowAt calls lists reals) n h answers (i + 1) l′ answers″
 next-row′ calls lists reals n h answers i l answers′ r l′ row answers″ room q fit s e p g =
     subst (λ (a : List ℕ). Going (rowAt calls lists reals) n h answers (i + 1) l′ a) (sym p)
@@ -42,7 +42,7 @@ next-row′ calls lists reals n h answers i l answers′ r l′ row answers″ r
 
 pub next-row : (calls lists : List ℕ) (reals : List Float) (n : ℕ) (old : Lent) (answers : List ℕ) (i : ℕ) (l : Lent) (answers′ : List ℕ) (r : Reply) (l′ : Lent) (row answers″ : List ℕ)
     → Looping calls lists reals n old answers i l answers′ → i < n → Fitting l′ → StepLeft (callAt row lists reals) l r l′ → row ≡ cut calls (i * rowWords) rowWords
-    → answers″ ≡ pasted answers′ (i * 4) (replyWords r) 4 → Looping calls lists reals n old answers (i + 1) l′ answers″
+    → answers″ ≡ pasted answers′ (i * replyLength) (replyWords r) replyLength → Looping calls lists reals n old answers (i + 1) l′ answers″
 next-row calls lists reals n old answers i l answers′ r l′ row answers″ g q fit s e p = record {
   going = next-row′ calls lists reals n (heldOf old) answers i l answers′ r l′ row answers″ (g .room .answers) q fit s e p (g .going);
   room = g .room;

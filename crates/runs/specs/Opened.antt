@@ -56,7 +56,7 @@ pub record LeftByRun (m : Map) (rows : List (Option Edit)) (old : Lent) (answers
   pub law : RunLaw m (editsOf rows) (stateOf new)
   -- the set that is lent holds the change set of the last call that was accepted
   pub set : changeSetOf (new .set) ≡ lastSet (changeSetOf (old .set)) (setsOf (editsOf rows) (opening m))
-  -- each row has its answer in four words; the words after stay
+  -- each row has its answer in words; the words after stay
   pub replied : answers′ ≡ replies rows (opening m) ++ drop (length rows * replyLength) answers
   -- the buffer begins with the fold's change set file, and the bytes after stay; where it is too short that is 14, and the buffer stays, but the run is carried out
   pub written : FileWritten (putIn (changeFile .write (stateOf new .fold)) buffer) (changeFile .write (stateOf new .fold)) buffer w buffer′

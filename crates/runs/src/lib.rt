@@ -43,7 +43,7 @@ fn run_rows(
     kept
 }
 
-// Every row is carried out, in order, on what the one before left, and has its answer in four words.
+// Every row is carried out, in order, on what the one before left, and has its answer in words.
 pub fn run_calls(
     words: &mut [u64],
     coords: &mut [f64],

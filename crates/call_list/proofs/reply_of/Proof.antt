@@ -20,7 +20,7 @@ second-of-requires : tie.Need-second-of-requires
 second-of-requires c κs = search needs
 
 returns : tie.Need-returns
-returns c = done-reply _ _ (c .before .c .given .1)
+returns c = done-reply _ _ _ (c .before .c .given .1)
 
 returns-2 : tie.Need-returns-2
 returns-2 c = refused-reply _ _ _ _ _ (c .before .before .before .before .c2 .given .1) (c .before .before .number .ensures) (c .before .detail-of .ensures) (c .second-of .ensures)
