@@ -14,4 +14,9 @@ done
 cd bench
 driver=$1
 shift
-exec cargo run --quiet --release --offline --bin "$driver" -- "$@"
+# timed is the Rust as it stands, without the notes that name ends
+case $driver in
+    edit_times | validity) features=--no-default-features ;;
+    *) features= ;;
+esac
+exec cargo run --quiet --release --offline $features --bin "$driver" -- "$@"

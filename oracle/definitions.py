@@ -4,7 +4,7 @@
   definitions.py [--calls N] [--runs N] [--edits K] [--seed S] [--keep DIRECTORY]
 
 The oracle (built by check.sh) answers random calls; each becomes a theorem that the definitions give the same
-refusal and details, or the same number, change set, map file and running fold. Then whole runs of K edits, from
+refusal and details, or the same number, change set, ends, map file and running fold. Then whole runs of K edits, from
 the opening: the map file, the fold's file and the tally at the end. Calls that are left out of the runs because
 document 01 gives 9, 10 or 11, or 2 where the Rust panics, are compared with what 01 gives by the oracle's model.
 Outside the gate: it takes some minutes. A theorem that runs past the checker's step limit has no verdict and is
@@ -31,21 +31,17 @@ use lib.Ieee.{Float, binary64, ofBits, toBits, neg}
 use Rattle.refusal.specs.Answer.{Answer, refused, done}
 use Rattle.rows.specs.Lists.{sameList}
 use Rattle.geometry.specs.Point.{at3}
-use Rattle.codec.specs.Format
-use Rattle.codec.specs.Format.{Bytes}
 use Rattle.map.specs.declared.SignalKind.the-variants.{Vehicle, Pedestrian}
 use Rattle.map.specs.declared.BulbColor.the-variants.{Red, Yellow, Green, White}
 use Rattle.map.specs.declared.BulbArrow.the-variants.{NoArrow, Up, Down, Left, Right, UpLeft, UpRight, DownLeft, DownRight}
 use Rattle.map.specs.Record.{Map}
-use Rattle.map.specs.MapFile.{mapFile}
 use Rattle.changes.specs.ChangeSet.{ChangeSet, noChanges, tallyOf}
-use Rattle.changes.specs.ChangeFile.{changeFile}
 use Rattle.changes.specs.Running.{State, opening}
 use Rattle.files.specs.Files.{readMap, readChanges}
 use Rattle.place.specs.declared.Placement.the-variants.{AtLaneEnd, AtStation, Given}
 use Rattle.edit.specs.declared.StopRule.the-variants.{StopSign, Marking, NoRule}
 use Rattle.edit.specs.declared.StopLineChoice.the-variants.{Automatic, Existing, New, NoLine}
-use Rattle.edit.specs.Edit.{Outcome}
+use Rattle.compare.proofs.Shown.{shown, shownLinks, ending}
 use Rattle.run.specs.Run.{Edit, line, signal, links, runOne, runAll, open-all}
 
 abbrev f : ℕ → Float
@@ -56,18 +52,45 @@ stateOf (done m) (done c) = record { map = m; fold = c; tally = tallyOf c }
 stateOf (done m) (refused n ds) = opening m
 stateOf (refused n ds) b = opening (record { next = 0; lanes = []; boundaries = []; stopLines = []; signals = []; crosswalks = []; rules = [] })
 
-abbrev shown : Answer Outcome → Bytes
+'''
+
+# What is compared of an answer. A file of its own: sides and arrows have the same names.
+SHOWN = '''use Prim.Native.Nat.{ℕ}
+use mathlib.Core.Option.{Option, none, some}
+use mathlib.Core.List.{List, [], _∷_, _++_}
+use Rattle.refusal.specs.Answer.{Answer, refused, done}
+use Rattle.codec.specs.Format
+use Rattle.codec.specs.Format.{Bytes}
+use Rattle.map.specs.MapFile.{mapFile}
+use Rattle.changes.specs.ChangeFile.{changeFile}
+use Rattle.changes.specs.Running.{State}
+use Rattle.place.specs.declared.LaneSide.{LaneSide}
+use Rattle.place.specs.declared.LaneSide.the-variants.{Left, Right}
+use Rattle.place.specs.declared.SectionNames.{SectionNames}
+use Rattle.edit.specs.Edit.{Outcome}
+
+abbrev sideNumber : LaneSide → ℕ
+sideNumber Left = 0
+sideNumber Right = 1
+
+abbrev namesOf : Option SectionNames → Bytes
+namesOf none = 0 ∷ []
+namesOf (some x) = 1 ∷ x .left .lane ∷ sideNumber (x .left .side) ∷ x .right .lane ∷ sideNumber (x .right .side) ∷ []
+
+abbrev left : Outcome → Bytes
+left o = changeFile .write (o .changes) ++ namesOf (o .ends) ++ mapFile .write (o .state .map) ++ changeFile .write (o .state .fold)
+
+abbrev pub shown : Answer Outcome → Bytes
 shown (refused n ds) = 0 ∷ n ∷ ds
-shown (done o) = 1 ∷ o .id ∷ changeFile .write (o .changes) ++ mapFile .write (o .state .map) ++ changeFile .write (o .state .fold)
+shown (done o) = 1 ∷ o .id ∷ left o
 
 -- set_regulatory_links answers no number
-abbrev shownLinks : Answer Outcome → Bytes
+abbrev pub shownLinks : Answer Outcome → Bytes
 shownLinks (refused n ds) = 0 ∷ n ∷ ds
-shownLinks (done o) = 1 ∷ 0 ∷ changeFile .write (o .changes) ++ mapFile .write (o .state .map) ++ changeFile .write (o .state .fold)
+shownLinks (done o) = 1 ∷ 0 ∷ left o
 
-abbrev ending : State → Bytes
+abbrev pub ending : State → Bytes
 ending s = s .tally .created ∷ s .tally .modified ∷ s .tally .deleted ∷ mapFile .write (s .map) ++ changeFile .write (s .fold)
-
 '''
 
 KINDS = ['Vehicle', 'Pedestrian']
@@ -180,6 +203,11 @@ def asked(seed, runs, size):
     return requests(done.stdout)
 
 
+def named(words):
+    """The words of ENDS as a list: 0, or 1 and the names."""
+    return listed(['1'] + words[1:] if words[0] == '+' else ['0'])
+
+
 def theorem(name, term, expected):
     return '%s : sameList (%s) (%s) ≡ true\nunfolding open-all neg toBits\n%s = refl\n\n' % (name, term, expected, name)
 
@@ -204,13 +232,13 @@ def call_theorems(pairs, most):
             term = '%s (runOne (%s) (stateOf (readMap (%s)) (readChanges (%s))))' % (
                 show, Tokens(request).edit(), numbers(here), numbers(fold))
             if parts[0] == 'done':
-                expected = listed(['1', parts[1]]).replace('[]', '') + ' (' + ') ++ ('.join(
-                    numbers(p) for p in parts[2:5]) + ')'
+                lists = [numbers(parts[2]), named(parts[3:-2]), numbers(parts[-2]), numbers(parts[-1])]
+                expected = listed(['1', parts[1]]).replace('[]', '') + ' (' + ') ++ ('.join(lists) + ')'
             else:
                 expected = listed(['0'] + parts[1:])
             out.append((term, expected, word + ' ' + answer[:60]))
         if parts[0] == 'done':
-            here, fold = parts[3], parts[4]
+            here, fold = parts[-2], parts[-1]
     return out
 
 
@@ -240,7 +268,7 @@ def run_theorems(pairs, most, edits):
                 continue
             es.append(Tokens(request).edit())
             if parts[0] == 'done':
-                end = (parts[3], parts[4], counts_of(parts[4]))
+                end = (parts[-2], parts[-1], counts_of(parts[-1]))
     close()
     return out
 
@@ -274,7 +302,8 @@ def check(where, items, names):
     os.makedirs(os.path.join(crate, 'src'))
     os.makedirs(os.path.join(crate, 'proofs'))
     open(os.path.join(crate, 'src', 'lib.rt'), 'w').write('// Definitions against the oracle.\n')
-    modules = []
+    open(os.path.join(crate, 'proofs', 'Shown.antt'), 'w').write(SHOWN)
+    modules = ['Shown']
     for i in range(0, len(items), 10):
         module = 'Some%d' % (i // 10)
         modules.append(module)
@@ -309,7 +338,9 @@ def main():
     text = open(os.path.join(ROOT, 'crates.txt')).read()
     open(os.path.join(where, 'crates.txt'), 'w').write(
         text + 'compare: refusal rows geometry codec map changes files place edit run\n')
-    calls = call_theorems(asked(options.seed, 20 + options.calls, 'small'), options.calls + options.calls // 6)
+    # on lanes laid on one another several sides lie equally far out
+    calls = call_theorems(asked(options.seed, 20 + options.calls, 'small'), options.calls) + call_theorems(
+        asked(options.seed + 2, 20 + options.calls // 3, 'shared'), options.calls // 3)
     runs = run_theorems(asked(options.seed + 1, 40 * options.runs, 'small'), options.runs + options.runs // 5, options.edits)
     items = calls + runs
     names = ['call%d' % i for i in range(len(calls))] + ['run%d' % i for i in range(len(runs))]

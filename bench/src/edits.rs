@@ -2,15 +2,20 @@
 
 use crate::tables::{SET_WORDS, Tables, set_of};
 use oracle::codec::{FileMap, FileSet};
-use oracle::edits::{Call, Choice, NewLight, NewLine, NewLinks, Placement, Refusal, StopRule};
+use oracle::edits::{Call, Choice, NewLight, NewLine, NewLinks, Outcome, Placement, StopRule};
 use oracle::generate::Caller;
 use oracle::rng::Rng;
-use oracle::run::Run;
+use oracle::run::{Run, Verdict};
+
+/// How many words an answer has: what, number, two details, whether the ends are named, lane and side of the left end and of the right.
+pub const ANSWER: usize = 9;
 
 /// The answer to what is no call: its first word.
 pub const NO_CALL: u64 = 255;
 
 mod c {
+    use super::ANSWER;
+
     unsafe extern "C" {
         pub fn lane_map_add_stop_line(
             words: *mut u64,
@@ -29,7 +34,7 @@ mod c {
             given: *const f64,
             given_len: usize,
             rule: u64,
-            answer: *mut [u64; 4],
+            answer: *mut [u64; ANSWER],
         ) -> u64;
         pub fn lane_map_add_traffic_signal(
             words: *mut u64,
@@ -52,7 +57,7 @@ mod c {
             housing_len: usize,
             lamps: *const f64,
             lamps_len: usize,
-            answer: *mut [u64; 4],
+            answer: *mut [u64; ANSWER],
         ) -> u64;
         pub fn lane_map_set_regulatory_links(
             words: *mut u64,
@@ -71,7 +76,7 @@ mod c {
             crosswalks_len: usize,
             lines: *const u64,
             lines_len: usize,
-            answer: *mut [u64; 4],
+            answer: *mut [u64; ANSWER],
         ) -> u64;
         pub fn lane_map_run_calls(
             words: *mut u64,
@@ -375,14 +380,52 @@ pub fn damage(lent: &mut Lent, rng: &mut Rng, percent: usize) -> u64 {
     }
 }
 
-/// The number answered, or the refusal; 255 stands for what is no call.
-pub fn outcome(answer: [u64; 4]) -> Result<u64, Refusal> {
-    let [code, number, a, b] = answer;
-    match code {
-        0 => Ok(number),
-        2 => Err(Refusal::new(2, &[a, b])),
-        3..=8 => Err(Refusal::new(code as u8, &[a])),
-        _ => Err(Refusal::new(code as u8, &[])),
+/// An answer that says no more than its first word.
+pub fn only(what: u64) -> [u64; ANSWER] {
+    let mut words = [0; ANSWER];
+    words[0] = what;
+    words
+}
+
+/// The words that a call is to be answered with, by what the oracle says of it: a word that has nothing to say is 0.
+pub fn wanted(call: &Call, verdict: &Verdict) -> [u64; ANSWER] {
+    let mut words = [0; ANSWER];
+    match verdict {
+        Verdict::Answer(Outcome::Done { number, ends, .. }) => {
+            // The Rust answers no number for links; here it is the rule's.
+            words[1] = match call {
+                Call::Links(l) => l.rule,
+                _ => *number,
+            };
+            if let Some([left, right]) = ends {
+                let names = [left.lane, left.side.into(), right.lane, right.side.into()];
+                words[4] = 1;
+                words[5..].copy_from_slice(&names);
+            }
+        }
+        Verdict::Answer(Outcome::Refused(r)) | Verdict::LeftOut(_, r) => {
+            words[0] = r.number.into();
+            words[2..2 + r.details.len()].copy_from_slice(&r.details);
+        }
+        _ => panic!("the Rust and the model disagree: {verdict:?}"),
+    }
+    words
+}
+
+/// Lines whose ends are named, and those of them at which another side lies as far out: so many by the Rust's answers.
+#[derive(Default)]
+pub struct EndCounts {
+    pub named: usize,
+    pub ties: usize,
+}
+
+impl EndCounts {
+    /// An answer, and the run as the call left it.
+    pub fn note(&mut self, verdict: &Verdict, run: &Run) {
+        if let Verdict::Answer(Outcome::Done { ends: Some(_), .. }) = verdict {
+            self.named += 1;
+            self.ties += usize::from(run.rivals.iter().any(|r| !r.is_empty()));
+        }
     }
 }
 
@@ -396,8 +439,9 @@ impl Lent {
         }
     }
 
-    pub fn call(&mut self, args: &Args) -> [u64; 4] {
-        let mut answer = [0; 4];
+    pub fn call(&mut self, args: &Args) -> [u64; ANSWER] {
+        // what stands there before must not matter
+        let mut answer = [u64::MAX; ANSWER];
         let (words, coords) = (&mut self.tables.words, &mut self.tables.coords);
         let (w, wn) = (words.as_mut_ptr(), words.len());
         let (x, xn) = (coords.as_mut_ptr(), coords.len());

@@ -74,12 +74,24 @@ impl Refusal {
     }
 }
 
+/// The side of a lane that an end of a drawn line lies on: 0 left, 1 right.
+#[derive(Debug, Clone, Copy, PartialEq, Eq)]
+pub struct End {
+    pub lane: u64,
+    pub side: u8,
+}
+
+/// The left end and the right end.
+pub type Ends = [End; 2];
+
 #[derive(Debug, Clone, PartialEq)]
 pub enum Outcome {
-    /// The new line's or signal's number (0 for links) and the change set.
+    /// The new line's or signal's number (0 for links), the change set, and
+    /// the ends of a line that was drawn across lanes.
     Done {
         number: u64,
         set: FileSet,
+        ends: Option<Ends>,
     },
     Refused(Refusal),
     Panic,
@@ -208,10 +220,24 @@ pub fn run(map: &mut vm::Map, call: &Call) -> Result<(u64, vm::ChangeSet), vm::E
     }
 }
 
+/// The ends of the stop line that the Rust has placed by a cross-section.
+fn placed_ends() -> Option<Ends> {
+    let end = |(lane, side): (vm::LaneId, vm::Side)| End {
+        lane: lane.0,
+        side: match side {
+            vm::Side::Left => 0,
+            vm::Side::Right => 1,
+        },
+    };
+    vm::ends::take().map(|ends| ends.map(end))
+}
+
 /// Runs one edit and gives its answer in 01's numbers. A panic of the Rust is
 /// an answer too; the map is then as it was.
 pub fn answer(map: &mut vm::Map, call: &Call) -> Outcome {
     let mut edited = map.clone();
+    // An edit that is refused or panics may have placed a line before.
+    vm::ends::take();
     match quiet::caught(|| run(&mut edited, call)) {
         None => Outcome::Panic,
         Some(Err(error)) => {
@@ -221,7 +247,8 @@ pub fn answer(map: &mut vm::Map, call: &Call) -> Outcome {
         Some(Ok((number, set))) => {
             *map = edited;
             let set = convert::from_set(&set);
-            Outcome::Done { number, set }
+            let ends = placed_ends();
+            Outcome::Done { number, set, ends }
         }
     }
 }

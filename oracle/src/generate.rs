@@ -9,7 +9,7 @@ use crate::codec::{
     MAX_SIGNALS, MAX_STOP_LINES, Point, What, to_hex,
 };
 use crate::edits::{
-    Call, Choice, NewLight, NewLine, NewLinks, Outcome, Placement, StopRule, refusal,
+    Call, Choice, End, Ends, NewLight, NewLine, NewLinks, Outcome, Placement, StopRule, refusal,
 };
 use crate::maps::{Size, random_map};
 use crate::model::is_stop_rule_on;
@@ -536,7 +536,8 @@ pub fn all_refusals() -> Vec<(u8, u64)> {
 }
 
 impl Tally {
-    pub fn note(&mut self, call: &Call, before: &FileMap, after: &FileMap, verdict: &Verdict) {
+    /// A call, the map before it, and the run as it left it.
+    pub fn note(&mut self, call: &Call, before: &FileMap, run: &Run, verdict: &Verdict) {
         match verdict {
             Verdict::LeftOut(reason, _) => {
                 *self.left_out.entry(reason.name().into()).or_default() += 1;
@@ -551,9 +552,13 @@ impl Tally {
                 let detail = r.details.first().copied().unwrap_or(0);
                 *self.refused.entry((r.number, detail)).or_default() += 1;
             }
-            Verdict::Answer(Outcome::Done { set, .. }) => {
-                let all = shapes(call, before, set).into_iter();
-                for s in all.chain(at_ceiling(before, after)) {
+            Verdict::Answer(Outcome::Done { set, ends, .. }) => {
+                let mut all = shapes(call, before, set);
+                all.extend(at_ceiling(before, &run.file));
+                if let Some(ends) = ends {
+                    all.extend(end_shapes(before, ends, &run.rivals));
+                }
+                for s in all {
                     *self.shapes.entry(s).or_default() += 1;
                 }
             }
@@ -609,6 +614,63 @@ fn at_ceiling(before: &FileMap, after: &FileMap) -> Vec<String> {
     let full = (0..4).filter(|i| old[*i] < new[*i] && new[*i] == most[*i]);
     full.map(|i| format!("reaches {} {}", most[i], names[i]))
         .collect()
+}
+
+/// What the names of a drawn line's ends are like. A tie: another side lies as
+/// far out as the one that is named.
+fn end_shapes(map: &FileMap, ends: &Ends, rivals: &[Vec<End>; 2]) -> Vec<String> {
+    let boundary = |end: End| {
+        let lane = map.lane(end.lane).expect("a lane of the list");
+        if end.side == 0 { lane.left } else { lane.right }
+    };
+    let pairs = || {
+        let named = ends.iter().zip(rivals);
+        named.flat_map(|(end, others)| others.iter().map(move |o| (*end, *o)))
+    };
+    let [left, right] = rivals.each_ref().map(|r| !r.is_empty());
+    let mut out = vec!["ends"];
+    for (holds, name) in [
+        (left || right, "ends, tie"),
+        (left && right, "ends, tie at both"),
+        (left && !right, "ends, tie at the left only"),
+        (right && !left, "ends, tie at the right only"),
+        (
+            pairs().any(|(e, o)| o.lane < e.lane),
+            "ends, tie won against a lane of a lower number",
+        ),
+        (
+            pairs().any(|(e, o)| o.lane > e.lane),
+            "ends, tie won against a lane of a higher number",
+        ),
+        (
+            pairs().any(|(e, o)| o.lane == e.lane),
+            "ends, tie within a lane",
+        ),
+        (
+            pairs().any(|(e, o)| o.side < e.side),
+            "ends, tie of a right side with a left one",
+        ),
+        (
+            pairs().any(|(e, o)| boundary(e) == boundary(o)),
+            "ends, tie on one boundary",
+        ),
+        (
+            pairs().any(|(e, o)| boundary(e) != boundary(o)),
+            "ends, tie of two boundaries",
+        ),
+        (
+            boundary(ends[0]) == boundary(ends[1]),
+            "ends, both on one boundary",
+        ),
+        (ends[0].side == 1, "ends, the left one on a right side"),
+        (ends[1].side == 0, "ends, the right one on a left side"),
+        (ends[0].lane != ends[1].lane, "ends, of two lanes"),
+    ] {
+        if holds {
+            out.push(name);
+        }
+    }
+    out.into_iter().map(String::from).collect()
 }
 
 fn placement_name(p: &Placement) -> &'static str {
@@ -730,7 +792,7 @@ pub fn write_run(
         let call = caller.call(rng, &run);
         let before = run.file.clone();
         let verdict = run.call(&call);
-        tally.note(&call, &before, &run.file, &verdict);
+        tally.note(&call, &before, &run, &verdict);
         if let Verdict::Answer(outcome) = &verdict {
             let text = write_outcome(outcome, &run, form.brief);
             writeln!(out, "{}\n= {text}", write_call(&call))?;
@@ -761,11 +823,7 @@ pub fn generate(
     let mut tally = Tally::default();
     writeln!(out, "{}\n= ok", if form.brief { "brief" } else { "full" })?;
     for _ in 0..runs {
-        let size = size.unwrap_or_else(|| match rng.below(10) {
-            0..6 => Size::Small,
-            6..9 => Size::Medium,
-            _ => Size::Large,
-        });
+        let size = size.unwrap_or_else(|| Size::mixed(&mut rng));
         let calls = rng.between(1, 40);
         write_run(&mut rng, size, calls, form, &mut tally, out)?;
     }

@@ -10,7 +10,7 @@ const USAGE: &str = "\
 oracle serve
 oracle replay FILE
 oracle sample DIRECTORY
-oracle generate [--seed S] [--runs N] [--size small|medium|large|mixed]
+oracle generate [--seed S] [--runs N] [--size small|medium|large|shared|mixed]
                 [--brief] [--left-out] [--quiet]";
 
 fn main() -> io::Result<()> {
@@ -71,6 +71,7 @@ fn run_generate(words: &[&str]) -> io::Result<()> {
                     "small" => Some(Size::Small),
                     "medium" => Some(Size::Medium),
                     "large" => Some(Size::Large),
+                    "shared" => Some(Size::Shared),
                     "mixed" => None,
                     _ => usage(),
                 }

@@ -9,6 +9,20 @@ pub enum Size {
     Small,
     Medium,
     Large,
+    /// Few lanes, laid on one another: sides of several lie equally far out.
+    Shared,
+}
+
+impl Size {
+    /// Mostly small.
+    pub fn mixed(rng: &mut Rng) -> Self {
+        match rng.below(10) {
+            0..5 => Size::Small,
+            5 => Size::Shared,
+            6..9 => Size::Medium,
+            _ => Size::Large,
+        }
+    }
 }
 
 /// Where a road lies and how it bends.
@@ -67,6 +81,14 @@ fn counts(rng: &mut Rng, size: Size) -> Counts {
             signals: rng.between(0, 5),
             crosswalks: rng.between(0, 3),
             rules: rng.between(0, 9),
+        },
+        Size::Shared => Counts {
+            lanes: rng.between(2, 6),
+            spare_boundaries: rng.between(0, 2),
+            lines: rng.between(0, 2),
+            signals: rng.between(0, 2),
+            crosswalks: rng.between(0, 1),
+            rules: rng.between(0, 3),
         },
         Size::Medium => Counts {
             lanes: rng.between(4, 20),
@@ -130,6 +152,9 @@ pub fn random_map(rng: &mut Rng, size: Size) -> FileMap {
     ]);
     m.roads(lanes_a_road, size);
     m.odd_lanes(size);
+    if size == Size::Shared {
+        m.shared_lanes();
+    }
     m.stop_lines();
     m.signals();
     m.crosswalks();
@@ -261,7 +286,7 @@ impl Maker<'_> {
         let mut boundaries = self.boundary_numbers.clone().into_iter();
         let most = match size {
             Size::Small => 12,
-            Size::Medium => 8,
+            Size::Medium | Size::Shared => 8,
             Size::Large => 6,
         };
         for lanes in numbers.chunks(lanes_a_road) {
@@ -479,6 +504,81 @@ impl Maker<'_> {
                 _ => std::mem::swap(&mut lane.left, &mut lane.right),
             }
             self.map.lanes[i] = lane;
+        }
+    }
+
+    /// Lays lanes on others: with sides of theirs, the same way, the other way
+    /// or crosswise, or with one boundary on both sides.
+    fn shared_lanes(&mut self) {
+        for i in 0..self.map.lanes.len() {
+            let other = self.rng.pick(&self.map.lanes);
+            let mut lane = self.map.lanes[i].clone();
+            match self.rng.below(12) {
+                0..3 => {
+                    (lane.left, lane.left_reversed) = (other.left, other.left_reversed);
+                    (lane.right, lane.right_reversed) = (other.right, other.right_reversed);
+                    if self.rng.percent(50) {
+                        lane.centerline = other.centerline;
+                    }
+                }
+                3 | 4 => {
+                    // The same road the other way.
+                    (lane.left, lane.left_reversed) = (other.right, !other.right_reversed);
+                    (lane.right, lane.right_reversed) = (other.left, !other.left_reversed);
+                }
+                5 => (lane.left, lane.left_reversed) = (other.left, other.left_reversed),
+                6 => (lane.right, lane.right_reversed) = (other.right, other.right_reversed),
+                7 => {
+                    // One boundary on both sides.
+                    lane.right = lane.left;
+                    lane.right_reversed = self.rng.percent(50);
+                }
+                8 => std::mem::swap(&mut lane.left, &mut lane.right),
+                9 => self.copy_boundary(lane.left, other.left),
+                10 => self.bend_round(&mut lane),
+                _ => {}
+            }
+            self.map.lanes[i] = lane;
+        }
+    }
+
+    /// One boundary as another lies: equal points under two numbers.
+    fn copy_boundary(&mut self, to: u64, from: u64) {
+        let Some(points) = self.map.boundary(from).map(|b| b.points.clone()) else {
+            return;
+        };
+        if let Some(b) = self.map.boundaries.iter_mut().find(|b| b.number == to)
+            && points.len() <= self.room
+        {
+            self.room -= points.len();
+            b.points = points;
+        }
+    }
+
+    /// One boundary goes round the lane: it is its left side, and backwards its
+    /// right one, and each way the nearest point lies on its own side.
+    fn bend_round(&mut self, lane: &mut Lane) {
+        let road = Road {
+            bend: 0.0,
+            ..self.road()
+        };
+        let (long, half) = (self.rng.range(20.0, 60.0), self.rng.range(1.5, 3.0));
+        let round = [(0.0, half), (long, half), (long, -half), (0.0, -half)];
+        let middle = [(0.0, 0.0), (long - 2.0 * half, 0.0)];
+        let laid = |at: &[(f64, f64)]| held(at.iter().map(|(u, v)| road.at(*u, *v)).collect());
+        if let Some(b) = self
+            .map
+            .boundaries
+            .iter_mut()
+            .find(|b| b.number == lane.left)
+            && self.room >= 6
+        {
+            self.room -= 6;
+            b.points = laid(&round);
+            lane.right = lane.left;
+            lane.left_reversed = false;
+            lane.right_reversed = true;
+            lane.centerline = Some(laid(&middle));
         }
     }
 

@@ -6,7 +6,9 @@
 //! order of refusals that 01 gives.
 
 use crate::codec::*;
-use crate::edits::{Call, Choice, NewLight, NewLine, NewLinks, Placement, Refusal, StopRule};
+use crate::edits::{
+    Call, Choice, End, Ends, NewLight, NewLine, NewLinks, Placement, Refusal, StopRule,
+};
 
 /// What 01 says of a call. A refusal alters nothing.
 #[derive(Debug, Clone, PartialEq)]
@@ -14,6 +16,7 @@ pub enum Judged {
     Done {
         number: u64,
         set: FileSet,
+        ends: Option<Named>,
         map: Box<FileMap>,
     },
     Refused(Refusal),
@@ -23,6 +26,14 @@ pub enum Judged {
     /// Refused with 2 because a rule names a stop line that is absent. The
     /// Rust panics there.
     AbsentLine(Refusal),
+}
+
+/// What is said of the ends of a drawn line.
+#[derive(Debug, Clone, PartialEq)]
+pub struct Named {
+    pub ends: Ends,
+    /// The other sides that lie as far out, at each end.
+    pub rivals: [Vec<End>; 2],
 }
 
 /// Kinds of record in refusals and sets.
@@ -70,6 +81,7 @@ pub fn judge(map: &FileMap, call: &Call) -> Judged {
 struct Draft {
     number: u64,
     set: FileSet,
+    ends: Option<Named>,
     map: FileMap,
     /// Points to be stored, bulbs among them.
     stored: Vec<Point>,
@@ -100,6 +112,7 @@ fn finish(before: &FileMap, mut d: Draft) -> Step<Judged> {
     Ok(Judged::Done {
         number: d.number,
         set: d.set,
+        ends: d.ends,
         map: Box::new(d.map),
     })
 }
@@ -312,7 +325,31 @@ fn centerline(map: &FileMap, lane: u64) -> Option<Vec<Point>> {
     Some((0..count).map(|i| lerp(left[i], right[i], 0.5)).collect())
 }
 
-fn cross_section(map: &FileMap, station: f64, lanes: &[u64]) -> Step<Vec<Point>> {
+/// A side of a lane as a section meets it: how far to the left of the centre
+/// its nearest point lies.
+struct Candidate {
+    lateral: f64,
+    at: Point,
+    name: End,
+}
+
+/// The first candidate that none lies beyond, and those that lie as far.
+fn outermost(all: &[Candidate], beyond: fn(f64, f64) -> bool) -> Option<(&Candidate, Vec<End>)> {
+    let kept = |c: &&Candidate| !all.iter().any(|o| beyond(o.lateral, c.lateral));
+    let end = all.iter().find(kept)?;
+    let rivals = all
+        .iter()
+        .filter(|c| c.lateral == end.lateral && c.name != end.name);
+    Some((end, rivals.map(|c| c.name).collect()))
+}
+
+/// Points of a line, and the names of its ends where a section made it.
+struct Drawn {
+    points: Vec<Point>,
+    ends: Option<Named>,
+}
+
+fn cross_section(map: &FileMap, station: f64, lanes: &[u64]) -> Step<Drawn> {
     let Some(center) = centerline(map, lanes[0]) else {
         return refuse(6, &[1]);
     };
@@ -323,10 +360,10 @@ fn cross_section(map: &FileMap, station: f64, lanes: &[u64]) -> Step<Vec<Point>>
         return refuse(6, &[3]);
     };
     let normal = [-u[1], u[0]];
-    let mut ends: Option<[(f64, Point); 2]> = None;
+    let mut all = vec![];
     for l in lanes {
         let lane = map.lane(*l).expect("a checked lane");
-        for points in sides(map, lane) {
+        for (side, points) in (0..).zip(sides(map, lane)) {
             let Some(points) = points else {
                 return refuse(6, &[4]);
             };
@@ -334,18 +371,20 @@ fn cross_section(map: &FileMap, station: f64, lanes: &[u64]) -> Step<Vec<Point>>
                 continue;
             };
             let lateral = normal[0] * (at[0] - p[0]) + normal[1] * (at[1] - p[1]);
-            let now = (lateral, at);
-            ends = Some(match ends {
-                None => [now, now],
-                Some([left, right]) => [
-                    if lateral > left.0 { now } else { left },
-                    if lateral < right.0 { now } else { right },
-                ],
-            });
+            let name = End { lane: *l, side };
+            all.push(Candidate { lateral, at, name });
         }
     }
-    match ends {
-        Some([left, right]) if left.0 - right.0 > 1e-3 => Ok(vec![left.1, right.1]),
+    let left = outermost(&all, |a, b| a > b);
+    let right = outermost(&all, |a, b| a < b);
+    match (left, right) {
+        (Some((a, others)), Some((b, more))) if a.lateral - b.lateral > 1e-3 => Ok(Drawn {
+            points: vec![a.at, b.at],
+            ends: Some(Named {
+                ends: [a.name, b.name],
+                rivals: [others, more],
+            }),
+        }),
         _ => refuse(6, &[5]),
     }
 }
@@ -357,7 +396,7 @@ fn place(
     lanes: &[u64],
     placement: &Placement,
     warnings: &mut Vec<Warning>,
-) -> Step<Vec<Point>> {
+) -> Step<Drawn> {
     let Some(center) = centerline(map, lanes[0]) else {
         return refuse(6, &[1]);
     };
@@ -365,7 +404,10 @@ fn place(
     let station = match placement {
         Placement::Given(points) => {
             check_given(points)?;
-            return Ok(points.clone());
+            return Ok(Drawn {
+                points: points.clone(),
+                ends: None,
+            });
         }
         Placement::LaneEnd(offset) => {
             need(offset.is_finite() && *offset >= 0.0, 4, &[2])?;
@@ -402,7 +444,7 @@ fn hand_out(map: &mut FileMap, handed: &mut u64) -> u64 {
 fn stop_line(map: &FileMap, line: &NewLine) -> Step<Draft> {
     check_lanes(map, &line.lanes)?;
     let mut set = FileSet::default();
-    let points = place(map, &line.lanes, &line.placement, &mut set.warnings)?;
+    let Drawn { points, ends } = place(map, &line.lanes, &line.placement, &mut set.warnings)?;
     let mut after = map.clone();
     let mut handed = 0;
     let number = hand_out(&mut after, &mut handed);
@@ -436,6 +478,7 @@ fn stop_line(map: &FileMap, line: &NewLine) -> Step<Draft> {
     Ok(Draft {
         number,
         set,
+        ends,
         map: after,
         stored: points,
         handed,
@@ -447,7 +490,7 @@ fn stop_line(map: &FileMap, line: &NewLine) -> Step<Draft> {
 enum Plan {
     Use(u64),
     NoLine,
-    Draw(Vec<Point>),
+    Draw(Drawn),
 }
 
 /// The line of the lowest rule that lists the lane and is a light, a sign or
@@ -524,10 +567,10 @@ fn traffic_light(map: &FileMap, light: &NewLight) -> Step<Draft> {
                 return Err(Stop::Absent(Refusal::new(2, &details)));
             }
         },
-        Plan::Draw(points) => points.clone(),
+        Plan::Draw(line) => line.points.clone(),
         Plan::NoLine => {
             let end = centerline(map, lanes[0]).map_or(0.0, |c| length(&c));
-            cross_section(map, end, lanes)?
+            cross_section(map, end, lanes)?.points
         }
     };
     let housing = match &light.housing {
@@ -548,10 +591,13 @@ fn traffic_light(map: &FileMap, light: &NewLight) -> Step<Draft> {
     stored.extend(&housing);
     let mut after = map.clone();
     let mut handed = 0;
+    let mut ends = None;
     let line = match plan {
         Plan::Use(s) => Some(s),
         Plan::NoLine => None,
-        Plan::Draw(points) => {
+        Plan::Draw(line) => {
+            let points = line.points;
+            ends = line.ends;
             stored.extend(&points);
             let number = hand_out(&mut after, &mut handed);
             after.stop_lines.push(Line { number, points });
@@ -606,6 +652,7 @@ fn traffic_light(map: &FileMap, light: &NewLight) -> Step<Draft> {
     Ok(Draft {
         number,
         set,
+        ends,
         map: after,
         stored,
         handed,
@@ -753,6 +800,7 @@ fn set_links(map: &FileMap, links: &NewLinks) -> Step<Draft> {
     Ok(Draft {
         number: 0,
         set,
+        ends: None,
         map: after,
         stored: vec![],
         handed: 0,

@@ -3,7 +3,7 @@
 
 use crate::codec::{self, Bulb, FileSet, Point, from_hex, to_hex};
 use crate::edits::{
-    Call, Choice, NewLight, NewLine, NewLinks, Outcome, Placement, Refusal, StopRule,
+    Call, Choice, Ends, NewLight, NewLine, NewLinks, Outcome, Placement, Refusal, StopRule,
 };
 use crate::geometry::{self, Arg};
 use crate::run::{Run, Verdict};
@@ -289,6 +289,16 @@ pub fn write_refusal(word: &str, r: &Refusal) -> String {
     t.0
 }
 
+/// `-`, or `+` and lane and side of the left end, then of the right.
+pub fn write_ends(ends: &Option<Ends>) -> String {
+    let mut t = Text(if ends.is_some() { "+" } else { "-" }.into());
+    for end in ends.iter().flatten() {
+        t.word(end.lane);
+        t.word(end.side);
+    }
+    t.0
+}
+
 // ----------------------------------------------------------------- serving
 
 /// What stands between requests: a run, and a fold of sets handed in.
@@ -404,7 +414,7 @@ pub fn write_outcome(outcome: &Outcome, run: &Run, brief: bool) -> String {
     match outcome {
         Outcome::Refused(refusal) => write_refusal("refused", refusal),
         Outcome::Panic => "panic".into(),
-        Outcome::Done { number, set } => {
+        Outcome::Done { number, set, ends } => {
             let map = run.map_bytes();
             let map = if brief {
                 format!("#{:016x}", codec::fnv1a(&map))
@@ -412,8 +422,9 @@ pub fn write_outcome(outcome: &Outcome, run: &Run, brief: bool) -> String {
                 to_hex(&map)
             };
             format!(
-                "done {number} {} {map} {}",
+                "done {number} {} {} {map} {}",
                 to_hex(&codec::write_set(set)),
+                write_ends(ends),
                 to_hex(&run.fold_bytes())
             )
         }

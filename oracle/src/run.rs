@@ -3,7 +3,7 @@
 use vectormap_core as vm;
 
 use crate::codec::{self, FileMap, FileSet, What, write_map, write_set};
-use crate::edits::{self, Call, Choice, NewLight, Outcome, Refusal};
+use crate::edits::{self, Call, Choice, End, NewLight, Outcome, Refusal};
 use crate::model::{self, Judged};
 use crate::{convert, fold};
 
@@ -44,6 +44,9 @@ pub struct Run {
     pub map: vm::Map,
     pub file: FileMap,
     pub fold: vm::ChangeSet,
+    /// At each end of the line that the last accepted call drew: the other
+    /// sides that lie as far out.
+    pub rivals: [Vec<End>; 2],
     opening: usize,
 }
 
@@ -54,6 +57,7 @@ impl Run {
             opening: file.record_count(),
             file,
             fold: vm::ChangeSet::new(),
+            rivals: [vec![], vec![]],
         }
     }
 
@@ -84,19 +88,22 @@ impl Run {
             (_, Judged::Refused(r)) if r.number >= 9 && !comes_before(&rust) => left_out(r),
             (Outcome::Refused(r), Judged::Refused(s)) if r == s => Verdict::Answer(rust),
             (
-                Outcome::Done { number, set },
+                Outcome::Done { number, set, ends },
                 Judged::Done {
                     number: n,
                     set: s,
+                    ends: named,
                     map,
                 },
             ) => {
                 let file = convert::from_map(&edited);
-                if number == n && set == s && write_map(&file) == write_map(map) {
+                let same_ends = *ends == named.as_ref().map(|e| e.ends);
+                if number == n && set == s && same_ends && write_map(&file) == write_map(map) {
                     let set = convert::to_set(set);
                     self.accept(edited, file, set);
+                    self.rivals = named.clone().map_or([vec![], vec![]], |e| e.rivals);
                     Verdict::Answer(rust)
-                } else if keeps_rule(&self.file, call, &file) {
+                } else if same_ends && keeps_rule(&self.file, call, &file) {
                     Verdict::LeftOut(Reason::KeptRule, Refusal::new(0, &[]))
                 } else {
                     Verdict::Disagree(Box::new((rust, judged)))

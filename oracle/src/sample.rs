@@ -16,6 +16,8 @@ use crate::{convert, edits};
 
 const SEED: u64 = 20_261_003;
 const RUNS: usize = 165;
+/// Runs on lanes laid on one another.
+const SHARED_RUNS: usize = 15;
 /// Every refusal with every detail comes up at least this often.
 const LEAST: usize = 8;
 
@@ -91,6 +93,30 @@ pub fn crossing(y: f64) -> FileMap {
     }
 }
 
+/// Two lanes whose left sides begin on the centre, 4's at 0 and 5's at -0, and
+/// whose right side is one boundary.
+pub fn zeros() -> FileMap {
+    let line = |number, from, to| Line {
+        number,
+        points: vec![[0.0, from, 0.0], [10.0, to, 0.0]],
+    };
+    let lane = |number, left| Lane {
+        number,
+        kind: 0,
+        left,
+        left_reversed: false,
+        right: 3,
+        right_reversed: false,
+        centerline: Some(vec![[0.0; 3], [10.0, 0.0, 0.0]]),
+    };
+    FileMap {
+        next: 6,
+        lanes: vec![lane(4, 1), lane(5, 2)],
+        boundaries: vec![line(1, 0.0, 0.0), line(2, -0.0, -1.0), line(3, -3.0, -3.0)],
+        ..FileMap::default()
+    }
+}
+
 /// A stop sign across the lanes.
 pub fn stop_sign(lanes: &[u64], placement: edits::Placement) -> edits::Call {
     edits::Call::Line(edits::NewLine {
@@ -150,8 +176,29 @@ fn calls() -> io::Result<(Vec<u8>, usize)> {
     let (runs, tally) = runs()?;
     s.out.extend(runs);
     s.count += tally.calls + 2 * RUNS;
+
+    s.note("Ends at 0 and at -0 are equally far out.")?;
+    for lanes in [[4, 5], [5, 4]] {
+        s.ask(&format!("map {}", to_hex(&write_map(&zeros()))))?;
+        s.ask(&write_call(&stop_sign(&lanes, Station(0.0))))?;
+    }
+    s.note("Random runs on lanes laid on one another.")?;
+    let mut rng = Rng::new(SEED + 4);
+    let mut tally = Tally::default();
+    for _ in 0..SHARED_RUNS {
+        let calls = rng.between(10, 40);
+        let out = &mut s.out;
+        write_run(&mut rng, Size::Shared, calls, BRIEF, &mut tally, out)?;
+    }
+    assert!(tally.disagreements.is_empty());
+    s.count += tally.calls + 2 * SHARED_RUNS;
     Ok(s.done())
 }
+
+const BRIEF: Form = Form {
+    brief: true,
+    left_out: false,
+};
 
 /// The runs of the first seed that brings up every refusal often enough.
 fn runs() -> io::Result<(Vec<u8>, Tally)> {
@@ -159,13 +206,9 @@ fn runs() -> io::Result<(Vec<u8>, Tally)> {
         let mut rng = Rng::new(seed);
         let mut tally = Tally::default();
         let mut out = vec![];
-        let form = Form {
-            brief: true,
-            left_out: false,
-        };
         for _ in 0..RUNS {
             let calls = rng.between(1, 40);
-            write_run(&mut rng, Size::Small, calls, form, &mut tally, &mut out)?;
+            write_run(&mut rng, Size::Small, calls, BRIEF, &mut tally, &mut out)?;
         }
         assert!(tally.disagreements.is_empty(), "seed {seed}");
         if tally.rare(LEAST).is_empty() {

@@ -39,6 +39,32 @@ fn large_maps() {
     agree(Size::Large, 60, 1);
 }
 
+/// The Rust and 01 name the same ends where several sides lie as far out.
+#[test]
+fn ties() {
+    agree(Size::Shared, 500, 5);
+    let form = Form::default();
+    let tally = generate(6, 500, Some(Size::Shared), form, &mut std::io::sink()).unwrap();
+    assert_eq!(tally.disagreements, Vec::<String>::new());
+    let ties = [
+        "at both",
+        "at the left only",
+        "at the right only",
+        "won against a lane of a lower number",
+        "won against a lane of a higher number",
+        "within a lane",
+        "of a right side with a left one",
+        "on one boundary",
+        "of two boundaries",
+    ];
+    let mut names: Vec<String> = ties.iter().map(|t| format!("ends, tie {t}")).collect();
+    names.push("ends, both on one boundary".into());
+    for name in names {
+        let n = tally.shapes.get(&name).copied().unwrap_or(0);
+        assert!(n >= 25, "{name}: {n}");
+    }
+}
+
 #[test]
 fn calls_as_text() {
     let mut rng = Rng::new(9);

@@ -1,14 +1,17 @@
 //! The worked crossings of 01, as far as the Rust answers them.
 
 use oracle::codec::*;
-use oracle::edits::{Call, Choice, NewLight, NewLine, Outcome, Placement, Refusal, StopRule};
-use oracle::fold;
+use oracle::edits::{
+    self, Call, Choice, End, NewLight, NewLine, Outcome, Placement, Refusal, StopRule,
+};
 use oracle::run::{Reason, Run, Verdict};
-use oracle::sample::{crossing, plain_light, stop_sign};
+use oracle::sample::{crossing, plain_light, stop_sign, zeros};
+use oracle::vectormap::Point2;
+use oracle::{convert, fold};
 
 fn done(run: &mut Run, call: &Call) -> (u64, FileSet) {
     match run.call(call) {
-        Verdict::Answer(Outcome::Done { number, set }) => (number, set),
+        Verdict::Answer(Outcome::Done { number, set, .. }) => (number, set),
         other => panic!("{other:?}"),
     }
 }
@@ -201,6 +204,126 @@ fn an_absent_line_of_a_rule_is_left_out() {
     let mut s = Run::open(map);
     let want = Verdict::LeftOut(Reason::AbsentLine, Refusal::new(2, &[5, 50]));
     assert_eq!(s.call(&plain_light(&[3])), want);
+}
+
+/// Lane and side of the left end, then of the right; nothing for no names.
+fn ends(map: FileMap, call: &Call) -> Vec<u64> {
+    named(&mut Run::open(map), call)
+}
+
+fn named(run: &mut Run, call: &Call) -> Vec<u64> {
+    let words = |end: End| [end.lane, end.side.into()];
+    match run.call(call) {
+        Verdict::Answer(Outcome::Done { ends, .. }) => {
+            ends.iter().flatten().flat_map(|e| words(*e)).collect()
+        }
+        other => panic!("{other:?}"),
+    }
+}
+
+/// Lane 6 beside lane 3, between boundaries 2 and 5.
+fn two_lanes() -> FileMap {
+    let mut map = crossing(2.0);
+    map.lanes.push(Lane {
+        number: 6,
+        left: 2,
+        right: 5,
+        ..map.lanes[0].clone()
+    });
+    map.boundaries.push(Line {
+        number: 5,
+        points: vec![[0.0, -6.0, 0.0], [10.0, -6.0, 0.0]],
+    });
+    map.next = 7;
+    map
+}
+
+/// Lane 6 on lane 3.
+fn one_on_another() -> FileMap {
+    let mut map = crossing(2.0);
+    map.lanes.push(Lane {
+        number: 6,
+        ..map.lanes[0].clone()
+    });
+    map.next = 7;
+    map
+}
+
+#[test]
+fn ends_of_drawn_lines() {
+    let at_end = |lanes: &[u64]| stop_sign(lanes, Placement::LaneEnd(0.0));
+    assert_eq!(ends(crossing(2.0), &at_end(&[3])), [3, 0, 3, 1]);
+    assert_eq!(ends(two_lanes(), &at_end(&[3, 6])), [3, 0, 6, 1]);
+    assert_eq!(ends(two_lanes(), &at_end(&[6, 3])), [3, 0, 6, 1]);
+    assert_eq!(ends(one_on_another(), &at_end(&[6, 3])), [6, 0, 6, 1]);
+    assert_eq!(ends(one_on_another(), &at_end(&[3, 6])), [3, 0, 3, 1]);
+    let mut crosswise = crossing(2.0);
+    (crosswise.lanes[0].left, crosswise.lanes[0].right) = (2, 1);
+    assert_eq!(ends(crosswise, &at_end(&[3])), [3, 1, 3, 0]);
+    // As doubles 0 and -0 are equal, as patterns they are not.
+    let sides = zeros().boundaries;
+    let nearest = |b: &Line| convert::polyline(&b.points).nearest_point(Point2::new(0.0, 0.0));
+    let y = |b: &Line| nearest(b).unwrap().point.y.to_bits();
+    assert_eq!((y(&sides[0]), y(&sides[1])), (0, 1 << 63));
+    let at_start = |lanes: &[u64]| stop_sign(lanes, Placement::Station(0.0));
+    assert_eq!(ends(zeros(), &at_start(&[4, 5])), [4, 0, 4, 1]);
+    assert_eq!(ends(zeros(), &at_start(&[5, 4])), [5, 0, 5, 1]);
+}
+
+/// One boundary goes round the lane: forward it is the left side, backwards
+/// the right one.
+#[test]
+fn ends_on_one_boundary() {
+    let mut map = crossing(2.0);
+    map.boundaries[0].points = vec![
+        [0.0, 2.0, 0.0],
+        [10.0, 2.0, 0.0],
+        [10.0, -2.0, 0.0],
+        [0.0, -2.0, 0.0],
+    ];
+    map.lanes[0].right = 1;
+    map.lanes[0].right_reversed = true;
+    map.lanes[0].centerline = Some(vec![[0.0; 3], [5.0, 0.0, 0.0]]);
+    let mut s = Run::open(map);
+    assert_eq!(named(&mut s, &at_end(0.0)), [3, 0, 3, 1]);
+    assert_eq!(line_points(&s, 4), [[5.0, 2.0, 0.0], [5.0, -2.0, 0.0]]);
+}
+
+#[test]
+fn ends_of_lights() {
+    let light = |choice: Choice| {
+        let Call::Light(light) = plain_light(&[3]) else {
+            unreachable!()
+        };
+        Call::Light(NewLight { choice, ..light })
+    };
+    let given = || Placement::Given(vec![[5.0, 2.0, 0.0], [5.0, -2.0, 0.0]]);
+    let new = |p: Placement| light(Choice::New(p));
+    let both = [3, 0, 3, 1];
+    assert_eq!(ends(crossing(2.0), &stop_sign(&[3], given())), []);
+    assert_eq!(ends(crossing(2.0), &new(given())), []);
+    assert_eq!(ends(crossing(2.0), &new(Placement::Station(4.0))), both);
+    assert_eq!(ends(crossing(2.0), &new(Placement::LaneEnd(4.0))), both);
+    // A section is worked out for the anchor only.
+    assert_eq!(ends(crossing(2.0), &light(Choice::None)), []);
+    let mut s = Run::open(crossing(2.0));
+    assert_eq!(named(&mut s, &light(Choice::Auto)), both);
+    assert_eq!(named(&mut s, &light(Choice::Auto)), []);
+    assert_eq!(named(&mut s, &light(Choice::Existing(4))), []);
+    assert_eq!(named(&mut s, &light(Choice::None)), []);
+}
+
+/// What was placed outside of an answer is not told later.
+#[test]
+fn ends_are_not_left_over() {
+    let mut map = convert::to_map(&crossing(2.0));
+    edits::run(&mut map, &at_end(0.0)).unwrap();
+    let Call::Light(light) = plain_light(&[3]) else {
+        unreachable!()
+    };
+    let choice = Choice::None;
+    let plain = Call::Light(NewLight { choice, ..light });
+    assert_eq!(ends(crossing(2.0), &plain), []);
 }
 
 #[test]

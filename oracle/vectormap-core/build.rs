@@ -1,5 +1,6 @@
 //! Lays out the supplied Rust in OUT_DIR, with the stand-in for `hypot`, our
-//! stubs for the files that were not supplied, and a few accessors.
+//! stubs for the files that were not supplied, a few accessors, and, with the
+//! feature `ends`, a second answer of the cross-section: what its ends are.
 //!
 //! The supplied text is read at build time and is no part of this repository.
 
@@ -62,6 +63,57 @@ const ACCESSORS: [(&str, &str); 3] = [
     ),
 ];
 
+/// Words of ours in the midst of a supplied function. Where they go is told by
+/// as few of its words as name one place.
+struct Insertion {
+    file: &'static str,
+    function: &'static str,
+    behind: &'static str,
+    before: &'static str,
+    words: &'static str,
+}
+
+/// The walk of a section carries lane and side of the point that it keeps for
+/// each end, and tells them beside its answer; a stop line that is placed by it
+/// takes them over (src/ends.rs). No value of the supplied text is touched.
+const INSERTIONS: [Insertion; 5] = [
+    Insertion {
+        file: "edit/features.rs",
+        function: "cross_section",
+        behind: "",
+        before: "let mut left:",
+        words: "let mut ends = crate::ends::NONE; ",
+    },
+    Insertion {
+        file: "edit/features.rs",
+        function: "cross_section",
+        behind: "",
+        before: "left = Some((",
+        words: "ends[0] = (l, side); ",
+    },
+    Insertion {
+        file: "edit/features.rs",
+        function: "cross_section",
+        behind: "",
+        before: "right = Some((",
+        words: "ends[1] = (l, side); ",
+    },
+    Insertion {
+        file: "edit/features.rs",
+        function: "cross_section",
+        behind: "",
+        before: "match (left, right)",
+        words: "crate::ends::walked(ends); ",
+    },
+    Insertion {
+        file: "edit/features.rs",
+        function: "place_stop_line",
+        behind: "clamped, lanes)",
+        before: "",
+        words: ".inspect(|_| crate::ends::place())",
+    },
+];
+
 fn main() {
     let home = PathBuf::from(env::var_os("CARGO_MANIFEST_DIR").unwrap());
     let out = PathBuf::from(env::var_os("OUT_DIR").unwrap()).join("vectormap");
@@ -83,6 +135,11 @@ fn main() {
         let text = read(&path);
         let (mut text, found) = replace_hypot(&text, name);
         assert_eq!(found, calls, "calls of hypot in {name}");
+        if env::var_os("CARGO_FEATURE_ENDS").is_some() {
+            for i in INSERTIONS.iter().filter(|i| i.file == name) {
+                text = insert(&text, i);
+            }
+        }
         for (file, more) in ACCESSORS {
             if file == name {
                 text.push('\n');
@@ -148,4 +205,19 @@ fn replace_hypot(text: &str, name: &str) -> (String, usize) {
     }
     assert!(!out.contains("hypot"), "hypot is left in {name}");
     (out, found)
+}
+
+/// Puts the words in, or fails where their place is not there exactly once or
+/// not in its function.
+fn insert(text: &str, i: &Insertion) -> String {
+    let anchor = format!("{}{}", i.behind, i.before);
+    let found: Vec<usize> = text.match_indices(&anchor).map(|(at, _)| at).collect();
+    let [at] = found[..] else {
+        panic!("`{anchor}` stands {} times in {}", found.len(), i.file);
+    };
+    let (head, tail) = text.split_at(at + i.behind.len());
+    let last = head.rsplit("fn ").next().unwrap_or_default();
+    let within = last.starts_with(&format!("{}(", i.function));
+    assert!(within, "`{anchor}` is not within {}", i.function);
+    format!("{head}{}{tail}", i.words)
 }

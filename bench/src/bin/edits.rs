@@ -1,9 +1,9 @@
-//! edits [CALLS] [SEED]: random calls in runs, the proved edits beside the Rust's. After each call: answer and details, change
-//! set bytes, map bytes, fold bytes, tally; after a refusal, every byte of the lent memory. Where 01 answers and the Rust does
-//! not (9, 10, 11, an absent line), the comparison is with the model of 01. Numbers that are no case of their enum, and memory that
-//! is no opened map's, are tried beside them.
+//! edits [CALLS] [SEED]: random calls in runs, the proved edits beside the Rust's. After each call: all words of the answer (what,
+//! number, details, the names of the ends), change set bytes, map bytes, fold bytes, tally; after a refusal, every byte of the lent
+//! memory. Where 01 answers and the Rust does not (9, 10, 11, an absent line), the comparison is with the model of 01. Numbers that
+//! are no case of their enum, and memory that is no opened map's, are tried beside them.
 
-use bench::edits::{Lent, NO_CALL, damage, draw, outcome};
+use bench::edits::{EndCounts, Lent, NO_CALL, damage, draw, only, wanted};
 use bench::tables::set_of;
 use oracle::codec::{MAX_BULBS, write_map, write_set};
 use oracle::edits::{Call, NewLight, Outcome};
@@ -33,12 +33,9 @@ fn main() {
     let (mut asked, mut done, mut runs, mut none, mut differ) = (0, 0, 0, 0, 0);
     // 9 and 10 of lights with more than four lamps
     let mut many = [0; 2];
+    let mut ends = EndCounts::default();
     while asked < calls {
-        let size = match rng.below(10) {
-            0..6 => Size::Small,
-            6..9 => Size::Medium,
-            _ => Size::Large,
-        };
+        let size = Size::mixed(&mut rng);
         let mut run = Run::open(random_map(&mut rng, size));
         let caller = Caller::new(&run);
         let mut lent = Lent::open(&run.file);
@@ -52,25 +49,22 @@ fn main() {
                 if spoilt.spoil(&mut rng) {
                     none += 1;
                     let answer = lent.call(&spoilt);
-                    assert_eq!(answer, [NO_CALL, 0, 0, 0]);
+                    assert_eq!(answer, only(NO_CALL));
                     assert!(lent.same(&before));
                 }
             }
             let file = write_map(&run.file);
             let fold = run.fold_bytes();
-            let got = outcome(lent.call(&args));
+            let got = lent.call(&args);
             asked += 1;
-            let good = match run.call(&call) {
-                Verdict::Answer(Outcome::Done { number, set }) => {
+            let verdict = run.call(&call);
+            let want = wanted(&call, &verdict);
+            ends.note(&verdict, &run);
+            let left = match verdict {
+                Verdict::Answer(Outcome::Done { set, .. }) => {
                     done += 1;
-                    // The Rust answers no number for links; here it is the rule's.
-                    let number = match &call {
-                        Call::Links(l) => l.rule,
-                        _ => number,
-                    };
                     let f = lent.fold_set();
-                    got == Ok(number)
-                        && write_set(&set_of(&lent.set)) == write_set(&set)
+                    write_set(&set_of(&lent.set)) == write_set(&set)
                         && write_map(&lent.tables.map()) == run.map_bytes()
                         && write_set(&f) == run.fold_bytes()
                         && lent.tally.map(|n| n as usize)
@@ -86,15 +80,14 @@ fn main() {
                     *hits
                         .entry((r.number, r.details.first().copied().unwrap_or(0)))
                         .or_default() += 1;
-                    got == Err(r) && lent.same(&before)
+                    lent.same(&before)
                 }
-                Verdict::Answer(Outcome::Panic) => false,
-                Verdict::Disagree(d) => panic!("the Rust and the model disagree: {d:?}"),
+                _ => unreachable!("no such answer is wanted"),
             };
-            if !good {
+            if got != want || !left {
                 differ += 1;
                 if differ <= 5 {
-                    println!("difference: {got:?}");
+                    println!("difference: {got:?}, wanted {want:?}, memory as wanted: {left}");
                     println!("  map  {}", oracle::codec::to_hex(&file));
                     println!("  fold {}", oracle::codec::to_hex(&fold));
                     println!("  call {}", write_call(&call));
@@ -104,6 +97,7 @@ fn main() {
         }
     }
     println!("{asked} calls in {runs} runs, {done} carried out, {differ} differences");
+    println!("ends named {}, with a tie {}", ends.named, ends.ties);
     println!(
         "more than four lamps: 9: {}, 10: {}; {none} that were no call",
         many[0], many[1]
@@ -134,7 +128,7 @@ fn foreign(rng: &mut Rng) {
         };
         let before = lent.clone();
         let got = lent.call(&args);
-        assert_eq!(got, [want, 0, 0, 0], "{}", write_call(&call));
+        assert_eq!(got, only(want), "{}", write_call(&call));
         assert!(lent.same(&before));
         *refused.entry(want).or_insert(0) += 1;
     }

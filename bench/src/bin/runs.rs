@@ -1,12 +1,12 @@
 //! runs [RUNS] [SEED]: random runs handed over whole, beside the Rust's run: a map file and a list of calls, carried out by one call
-//! of the proved code; and the same list on tables that are open. Compared: each row's four words, the map, the fold and its file,
-//! the tally, the last change set; a buffer that is too short; and every byte that was lent where the run is refused.
+//! of the proved code; and the same list on tables that are open. Compared: all words of each row's answer, the map, the fold and its
+//! file, the tally, the last change set; a buffer that is too short; and every byte that was lent where the run is refused.
 
-use bench::edits::{Args, Lent, NO_CALL, damage, draw};
+use bench::edits::{ANSWER, Args, EndCounts, Lent, NO_CALL, damage, draw, only, wanted};
 use bench::files::run_opened;
 use bench::tables::set_of;
 use oracle::codec::{FileSet, to_hex, write_map, write_set};
-use oracle::edits::{Call, Outcome};
+use oracle::edits::Outcome;
 use oracle::generate::Caller;
 use oracle::maps::{Size, random_map};
 use oracle::rng::Rng;
@@ -162,7 +162,7 @@ struct Wanted {
     last: Option<FileSet>,
 }
 
-fn rust_run(rng: &mut Rng, run: &mut Run) -> Wanted {
+fn rust_run(rng: &mut Rng, run: &mut Run, ends: &mut EndCounts) -> Wanted {
     let caller = Caller::new(run);
     let mut calls = Calls::default();
     let mut answers = vec![];
@@ -171,29 +171,21 @@ fn rust_run(rng: &mut Rng, run: &mut Run) -> Wanted {
         let (call, args) = draw(&caller, rng, run);
         if rng.percent(8) {
             calls.no_call(rng, args);
-            answers.extend([NO_CALL, 0, 0, 0]);
+            answers.extend(only(NO_CALL));
             continue;
         }
         let row = calls.row(rng, &args);
         calls.rows.extend(row.words);
-        answers.extend(match run.call(&call) {
-            Verdict::Answer(Outcome::Done { number, set }) => {
-                last = Some(set);
-                match &call {
-                    Call::Links(l) => [0, l.rule, 0, 0],
-                    _ => [0, number, 0, 0],
-                }
-            }
-            Verdict::Answer(Outcome::Refused(r)) | Verdict::LeftOut(_, r) => {
-                let detail = |i: usize| r.details.get(i).copied().unwrap_or(0);
-                [r.number.into(), 0, detail(0), detail(1)]
-            }
-            _ => panic!("the Rust and the model disagree"),
-        });
+        let verdict = run.call(&call);
+        answers.extend(wanted(&call, &verdict));
+        ends.note(&verdict, run);
+        if let Verdict::Answer(Outcome::Done { set, .. }) = verdict {
+            last = Some(set);
+        }
     }
     if rng.percent(20) {
         calls.past_the_end(rng);
-        answers.extend([NO_CALL, 0, 0, 0]);
+        answers.extend(only(NO_CALL));
     }
     // an incomplete row is passed over
     let rest = if rng.percent(20) { rng.below(ROW) } else { 0 };
@@ -241,7 +233,7 @@ impl Counts {
     fn note(&mut self, code: u64, want: &Wanted) {
         if code == 0 {
             self.done += 1;
-            self.rows += want.answers.len() / 4;
+            self.rows += want.answers.len() / ANSWER;
         } else {
             self.refused[code as usize - 12] += 1;
             self.empty += usize::from(want.answers.is_empty());
@@ -337,15 +329,12 @@ fn main() {
     let seed: u64 = args.next().map_or(1, |a| a.parse().unwrap());
     let mut rng = Rng::new(seed);
     let (mut opened, mut called, mut differ) = (Counts::default(), Counts::default(), 0);
+    let mut ends = EndCounts::default();
     for _ in 0..runs {
-        let size = match rng.below(10) {
-            0..6 => Size::Small,
-            6..9 => Size::Medium,
-            _ => Size::Large,
-        };
+        let size = Size::mixed(&mut rng);
         let open = Run::open(random_map(&mut rng, size));
         let mut run = open.clone();
-        let want = rust_run(&mut rng, &mut run);
+        let want = rust_run(&mut rng, &mut run, &mut ends);
         let file = open.map_bytes();
         let a = from_file(&mut rng, &file, &run, &want, &mut opened);
         let b = on_tables(&mut rng, &open, &run, &want, &mut called);
@@ -359,6 +348,7 @@ fn main() {
         }
     }
     println!("{runs} runs, {differ} differences");
+    println!("ends named {}, with a tie {}", ends.named, ends.ties);
     println!("from a file: {}", opened.text());
     println!("on open tables: {}", called.text());
     std::process::exit((differ > 0).into());

@@ -7,6 +7,8 @@
 
 include!(concat!(env!("OUT_DIR"), "/vectormap/modules.rs"));
 
+pub mod ends;
+
 pub use attributes::Attributes;
 pub use diagnostics::{Issue, IssueCode, Severity, codes};
 pub use edit::*;
