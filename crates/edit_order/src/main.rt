@@ -16,6 +16,7 @@ use files::ChangesRead;
 use files::MapRead;
 use files::Written;
 use libc::STDOUT_FILENO;
+use place::MaybeEnds;
 use sample_text::bytes;
 use sample_text::expect_number;
 use sample_text::hex_at;
@@ -138,12 +139,7 @@ fn ran(a: RunAnswer, answers: &[u64]) -> Carried {
                 };
             }
             Carried {
-                reply: Reply {
-                    what: get(answers, 0),
-                    number: get(answers, 1),
-                    detail: get(answers, 2),
-                    second: get(answers, 3),
-                },
+                reply: request_calls::reply_in(answers),
                 tally,
             }
         }
@@ -193,7 +189,7 @@ fn listed(
     let mut row = [0u64; requests::ROW];
     let mut lists = [0u64; requests::LISTS];
     let mut reals = [0.0; requests::REALS];
-    let mut answers = [0u64; 4];
+    let mut answers = [0u64; call_list::ANSWER];
     requests::request_into(text, at, &mut row, &mut lists, &mut reals);
     put(&mut row, rows::index(get(marks, WORD)), get(marks, VALUE));
     run_row(
@@ -282,6 +278,7 @@ fn written(w: Written) -> Reply {
             number: n as u64,
             detail: 0,
             second: 0,
+            ends: MaybeEnds::Nothing,
         },
         Written::Refused(why) => request_calls::reply(refusal::number(why)),
     }

@@ -1,9 +1,11 @@
-// Replays the oracle's stored calls: each request is carried out by the proved code on lent memory, and its answer, change set, map and
-// running fold are compared with what the Rust gave, which stands in the next line. A refusal must leave every word as it was.
-// Writes how many calls were carried out, how often each refusal came with each detail, and how many answers were met.
+// Replays the oracle's stored calls and the examples of requests: each request is carried out by the proved code on lent memory, and its
+// answer, change set, ends, map and running fold are compared with what stands in the next line: what the Rust gave, or what the example
+// says (it has no fold). A refusal must leave every word as it was. Writes for each file how many calls were carried out and how many of
+// them named ends, how often each refusal came with each detail, and how many answers were met.
 use call_list::Reply;
 use changes::Tally;
 use libc::STDOUT_FILENO;
+use place::MaybeEnds;
 use request_calls::line_over;
 use sample_text::expect_number;
 use sample_text::name_at;
@@ -22,6 +24,8 @@ const LINES: usize = 4;
 const LIGHTS: usize = 5;
 
 const LINKS: usize = 6;
+
+const ENDS: usize = 7;
 
 fn get(t: &[u64], i: usize) -> u64 {
     if i < t.len() { t[i] } else { 0 }
@@ -51,7 +55,7 @@ fn count_refusal(counts: &mut [u64], r: Reply) {
 }
 
 // Where calls of a name are counted that were carried out.
-fn place(name: u64) -> usize {
+fn counted_at(name: u64) -> usize {
     match name {
         0x6C696E65 => LINES,
         0x6C69676874 => LIGHTS,
@@ -59,10 +63,18 @@ fn place(name: u64) -> usize {
     }
 }
 
+fn count_ends(counts: &mut [u64], ends: MaybeEnds) {
+    match ends {
+        MaybeEnds::At(_) => add_one(counts, ENDS),
+        MaybeEnds::Nothing => {}
+    }
+}
+
 // A call that was carried out.
-fn done(text: &[u8], at: usize, met: bool, counts: &mut [u64]) {
+fn done(text: &[u8], at: usize, ends: MaybeEnds, met: bool, counts: &mut [u64]) {
     let w = name_at(text, at);
-    add_one(counts, place(w.value));
+    add_one(counts, counted_at(w.value));
+    count_ends(counts, ends);
     count_answer(counts, met);
 }
 
@@ -99,8 +111,9 @@ fn edit(
         refused(text, answer, r, same, counts);
         return after;
     }
-    let met = request_calls::done_as(text, at, answer, r.number, words, coords, fold, set, buffer);
-    done(text, at, met, counts);
+    let met = request_calls::done_as(text, at, answer, r, words, coords, fold, set, buffer);
+    let ends = r.ends;
+    done(text, at, ends, met, counts);
     after
 }
 
@@ -142,6 +155,12 @@ fn tally_as(text: &[u8], answer: usize, tally: Tally) -> bool {
     line_over(text, expect_number(text, b, tally.deleted))
 }
 
+// Where what was asked for starts in its answer: in the examples behind `ok`.
+fn told_start(text: &[u8], answer: usize) -> usize {
+    let w = name_at(text, answer);
+    if w.value == 0x6F6B { w.next } else { answer }
+}
+
 // What is asked between the edits: the map's file, the running fold's, the tally.
 fn look(
     text: &[u8],
@@ -154,13 +173,15 @@ fn look(
     buffer: &mut [u8],
     counts: &mut [u64],
 ) {
+    let told = told_start(text, answer);
+    // `file` or `dump`, `fold`, `tally`
     match name {
-        0x66696C65 => {
-            let a = request_calls::expect_map(text, answer, words, coords, buffer);
+        0x66696C65 | 0x64756D70 => {
+            let a = request_calls::expect_map(text, told, words, coords, buffer);
             count_answer(counts, line_over(text, a));
         }
         0x666F6C64 => {
-            let a = request_calls::expect_set(text, answer, fold, buffer);
+            let a = request_calls::expect_set(text, told, fold, buffer);
             count_answer(counts, line_over(text, a));
         }
         0x74616C6C79 => count_answer(counts, tally_as(text, answer, tally)),
@@ -168,7 +189,13 @@ fn look(
     }
 }
 
-// One line: its request, with the answer in the next line, behind `=`.
+// Where the request of a line starts: in the examples behind `>`.
+fn request_start(text: &[u8], at: usize) -> usize {
+    let w = name_at(text, at);
+    if w.value == 0x3E { w.next } else { at }
+}
+
+// One request, with the answer in the next line, behind `=` or `<`. What asks for none of these is passed over.
 fn line(
     text: &[u8],
     at: usize,
@@ -240,7 +267,7 @@ fn step(
     let tally = r.tally;
     let t = line(
         text,
-        0,
+        request_start(text, 0),
         next,
         words,
         coords,
@@ -327,6 +354,7 @@ fn report(counts: &[u64]) {
     say(b"stop lines ", get(counts, LINES));
     say(b"lights ", get(counts, LIGHTS));
     say(b"links ", get(counts, LINKS));
+    say(b"named ends ", get(counts, ENDS));
     say_refusals(counts);
     say(b"refused and altered ", get(counts, ALTERED));
     say(b"met ", get(counts, MET));
@@ -361,14 +389,26 @@ fn play(file: i32) {
     report(&counts);
 }
 
-fn main() {
+// The file that an argument names.
+fn play_named(i: usize) {
     let mut path = io::buffer();
-    let length = os::arg(1, &mut path);
+    let length = os::arg(i, &mut path);
     let file = os::open_read(&path[..length]);
     if file < 0 {
         os::fail(&path[..length]);
         return;
     }
+    io::write_all(STDOUT_FILENO, &path[..length]);
+    io::write_all(STDOUT_FILENO, b"\n");
     play(file);
     libc::close(file);
+}
+
+fn main() {
+    let count = os::arg_count();
+    let mut i = 1;
+    while i < count {
+        play_named(i);
+        i += 1;
+    }
 }

@@ -7,12 +7,21 @@ use files::Written;
 use libc::STDOUT_FILENO;
 use printing::say;
 use printing::word;
+use request_calls::expect_ends;
 use request_calls::expect_set;
 use request_calls::line_over;
 use sample_text::expect_number;
 use sample_text::name_at;
 
-// `done`, the number of the record and the set's bytes, or the refusal.
+// The ends behind the set's bytes; a line that says nothing of them expects none in particular.
+fn as_named(text: &[u8], at: usize, r: Reply) -> bool {
+    if line_over(text, at) {
+        return true;
+    }
+    line_over(text, expect_ends(text, at, r))
+}
+
+// `done`, the number of the record, the set's bytes and the ends, or the refusal.
 fn as_answered(text: &[u8], at: usize, r: Reply, set: &[u64], buffer: &mut [u8]) -> bool {
     if r.what != 0 {
         return request_calls::refused_as(text, at, r);
@@ -22,7 +31,7 @@ fn as_answered(text: &[u8], at: usize, r: Reply, set: &[u64], buffer: &mut [u8])
         return false;
     }
     let a = expect_number(text, w.next, r.number);
-    line_over(text, expect_set(text, a, set, buffer))
+    as_named(text, expect_set(text, a, set, buffer), r)
 }
 
 fn as_opened(text: &[u8], at: usize) -> bool {
@@ -89,6 +98,18 @@ fn refusal(r: Reply) {
     }
 }
 
+fn ends(r: Reply) {
+    let w = call_list::reply_words(r);
+    if w[4] == 0 {
+        say(b" -");
+        return;
+    }
+    word(b" + ", w[5]);
+    word(b" ", w[6]);
+    word(b" ", w[7]);
+    word(b" ", w[8]);
+}
+
 fn answer(r: Reply, set: &[u64], buffer: &mut [u8]) {
     if r.what != 0 {
         refusal(r);
@@ -97,6 +118,7 @@ fn answer(r: Reply, set: &[u64], buffer: &mut [u8]) {
     word(b"done ", r.number);
     say(b" ");
     set_in_hex(set, buffer);
+    ends(r);
 }
 
 // What came, in the notation of expectations.

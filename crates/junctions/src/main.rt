@@ -65,9 +65,18 @@ fn kind(name: u64) -> u64 {
     }
 }
 
+// The ends of a line, where they are named.
+fn say_ends(r: Reply) {
+    let w = call_list::reply_words(r);
+    if w[4] == 1 {
+        printing::ends(w[5], w[6], w[7], w[8]);
+    }
+}
+
 fn say_answer(name: u64, r: Reply, set: &[u64]) {
     printing::answer(kind(name), r.what, r.number, r.detail, r.second);
     if r.what == 0 {
+        say_ends(r);
         printing::sets::set(set);
     }
 }

@@ -77,7 +77,24 @@ pub fn kind(k: u64) {
     }
 }
 
-// An answer in four words, of a call that answers records of this kind. What is neither done nor refused was no call.
+// A side of a lane, as answers number them.
+fn side(s: u64) {
+    if s == 0 {
+        say(b", left side\n");
+    } else {
+        say(b", right side\n");
+    }
+}
+
+// The ends of a line that was drawn across lanes: whose boundaries they lie on.
+pub fn ends(left: u64, left_side: u64, right: u64, right_side: u64) {
+    word(b"  left end: lane ", left);
+    side(left_side);
+    word(b"  right end: lane ", right);
+    side(right_side);
+}
+
+// An answer in words, of a call that answers records of this kind. What is neither done nor refused was no call.
 pub fn answer(of: u64, what: u64, made: u64, detail: u64, second: u64) {
     if what == 0 {
         say(b"  done, ");

@@ -1,9 +1,13 @@
-// Requests of stored samples carried out on lent memory, and what was stored of their answers compared.
+// Requests of stored samples and examples carried out on lent memory, and what was stored of their answers compared.
 use call_list::Carried;
 use call_list::Reply;
 use changes::Tally;
 use files::Opened;
 use files::Written;
+use place::EndName;
+use place::LaneSide;
+use place::MaybeEnds;
+use place::SectionNames;
 use sample_text::bytes;
 use sample_text::expect_number;
 use sample_text::name_at;
@@ -82,13 +86,52 @@ fn open_file(
     }
 }
 
-// An answer without number and details.
+// An answer without number, details and ends.
 pub fn reply(what: u64) -> Reply {
     Reply {
         what,
         number: 0,
         detail: 0,
         second: 0,
+        ends: MaybeEnds::Nothing,
+    }
+}
+
+fn get(t: &[u64], i: usize) -> u64 {
+    if i < t.len() { t[i] } else { 0 }
+}
+
+fn name_in(lane: u64, side: u64) -> EndName {
+    if side == 0 {
+        return EndName {
+            lane,
+            side: LaneSide::Left,
+        };
+    }
+    EndName {
+        lane,
+        side: LaneSide::Right,
+    }
+}
+
+fn ends_in(t: &[u64]) -> MaybeEnds {
+    if get(t, 4) == 0 {
+        return MaybeEnds::Nothing;
+    }
+    MaybeEnds::At(SectionNames {
+        left: name_in(get(t, 5), get(t, 6)),
+        right: name_in(get(t, 7), get(t, 8)),
+    })
+}
+
+// The answer that stands as words at the beginning of a table.
+pub fn reply_in(t: &[u64]) -> Reply {
+    Reply {
+        what: get(t, 0),
+        number: get(t, 1),
+        detail: get(t, 2),
+        second: get(t, 3),
+        ends: ends_in(t),
     }
 }
 
@@ -150,6 +193,25 @@ pub fn expect_map(
     }
 }
 
+// The ends of the answer: `-`, or `+` with lane and side of the left one and of the right one.
+pub fn expect_ends(text: &[u8], at: usize, r: Reply) -> usize {
+    if at == 0 {
+        return 0;
+    }
+    let w = name_at(text, at);
+    let words = call_list::reply_words(r);
+    if words[4] == 0 {
+        return if w.value == 0x2D { w.next } else { 0 };
+    }
+    if w.value != 0x2B {
+        return 0;
+    }
+    let a = expect_number(text, w.next, words[5]);
+    let b = expect_number(text, a, words[6]);
+    let c = expect_number(text, b, words[7]);
+    expect_number(text, c, words[8])
+}
+
 // Whether the line ends before this place; false for 0.
 pub fn line_over(text: &[u8], at: usize) -> bool {
     if at == 0 {
@@ -174,12 +236,29 @@ fn stored_number(text: &[u8], request: usize, number: u64) -> u64 {
     number
 }
 
-// Whether the stored answer is `done` with this number and these files.
+// The number, change set, ends and map of an answer.
+fn expect_answer(
+    text: &[u8],
+    at: usize,
+    number: u64,
+    r: Reply,
+    words: &[u64],
+    coords: &[f64],
+    set: &[u64],
+    buffer: &mut [u8],
+) -> usize {
+    let a = expect_number(text, at, number);
+    let b = expect_set(text, a, set, buffer);
+    let c = expect_ends(text, b, r);
+    expect_map(text, c, words, coords, buffer)
+}
+
+// Whether the stored answer is this one with these files: `done` of the samples, with the fold behind, or `ok` of the examples.
 pub fn done_as(
     text: &[u8],
     request: usize,
     answer: usize,
-    number: u64,
+    r: Reply,
     words: &[u64],
     coords: &[f64],
     fold: &[u64],
@@ -187,16 +266,20 @@ pub fn done_as(
     buffer: &mut [u8],
 ) -> bool {
     let w = name_at(text, answer);
+    let number = r.number;
+    if w.value == 0x6F6B {
+        let a = expect_answer(text, w.next, number, r, words, coords, set, buffer);
+        return line_over(text, a);
+    }
     if w.value != 0x646F6E65 {
         return false;
     }
-    let a = expect_number(text, w.next, stored_number(text, request, number));
-    let b = expect_set(text, a, set, buffer);
-    let c = expect_map(text, b, words, coords, buffer);
-    line_over(text, expect_set(text, c, fold, buffer))
+    let stored = stored_number(text, request, number);
+    let a = expect_answer(text, w.next, stored, r, words, coords, set, buffer);
+    line_over(text, expect_set(text, a, fold, buffer))
 }
 
-// The details that the samples have of a refusal: kind and number of an unknown record, one detail of 3 to 8, else none.
+// The details that are stored of a refusal: kind and number of an unknown record, one detail of 3 to 8, else none.
 fn expect_details(text: &[u8], at: usize, r: Reply) -> usize {
     if r.what == 1 {
         return at;
@@ -211,10 +294,18 @@ fn expect_details(text: &[u8], at: usize, r: Reply) -> usize {
     a
 }
 
+// A refusal is `refused` in the samples and `err` in the examples.
+fn refusal_word(name: u64) -> bool {
+    match name {
+        0x72656675736564 | 0x657272 => true,
+        _ => false,
+    }
+}
+
 // Whether the stored answer is this refusal with its details.
 pub fn refused_as(text: &[u8], answer: usize, r: Reply) -> bool {
     let w = name_at(text, answer);
-    if w.value != 0x72656675736564 {
+    if !refusal_word(w.value) {
         return false;
     }
     let a = expect_number(text, w.next, r.what);

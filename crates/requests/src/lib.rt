@@ -1,8 +1,10 @@
-// Requests of stored samples as rows of a list of calls: a row of 28 words, and two pools for its lists. The lists of a row stand in
-// the pool of numbers from 0, 32 and 64 on; in the pool of reals an offset or station stands at 0, a height at 1, given points from 2, a
-// housing from 212, the lamps from 422. There is room for 32 numbers a list, 70 points a line and twelve lamps: a request with more makes no
-// call. What a row asks for is shown by the replays; proved is that every text is read safely.
+// Requests of stored samples and examples as rows of a list of calls: a row of 28 words, and two pools for its lists. A case stands by
+// its number, as in the oracle's samples, or by its word, as in the examples of requests. The lists of a row stand in the pool of numbers
+// from 0, 32 and 64 on; in the pool of reals an offset or station stands at 0, a height at 1, given points from 2, a housing from 212, the
+// lamps from 422. There is room for 32 numbers a list, 70 points a line and twelve lamps: a request with more makes no call. What a row
+// asks for is shown by the replays; proved is that every text is read safely.
 ghost use Prim.Native.Nat.{_<_};
+use sample_text::Word;
 use sample_text::double_at;
 use sample_text::name_at;
 use sample_text::number_at;
@@ -12,6 +14,89 @@ pub const ROW: usize = 28;
 pub const LISTS: usize = 96;
 
 pub const REALS: usize = 458;
+
+// A word that names no case: no field has so many.
+const NO_CASE: u64 = 255;
+
+// The fields that are cases.
+enum Field {
+    Placement,
+    Rule,
+    Choice,
+    Given,
+}
+
+fn placement_case(name: u64) -> u64 {
+    // `end`, `station`, `points`
+    match name {
+        0x656E64 => 0,
+        0x73746174696F6E => 1,
+        0x706F696E7473 => 2,
+        _ => NO_CASE,
+    }
+}
+
+fn rule_case(name: u64) -> u64 {
+    // `sign`, `marking`, `none`
+    match name {
+        0x7369676E => 0,
+        0x6D61726B696E67 => 1,
+        0x6E6F6E65 => 2,
+        _ => NO_CASE,
+    }
+}
+
+fn choice_case(name: u64) -> u64 {
+    // `auto`, `existing`, `new`, `none`
+    match name {
+        0x6175746F => 0,
+        0x6578697374696E67 => 1,
+        0x6E6577 => 2,
+        0x6E6F6E65 => 3,
+        _ => NO_CASE,
+    }
+}
+
+fn given_case(name: u64) -> u64 {
+    // `-`, `+`
+    match name {
+        0x2D => 0,
+        0x2B => 1,
+        _ => NO_CASE,
+    }
+}
+
+fn case_of(field: Field, name: u64) -> u64 {
+    match field {
+        Field::Placement => placement_case(name),
+        Field::Rule => rule_case(name),
+        Field::Choice => choice_case(name),
+        Field::Given => given_case(name),
+    }
+}
+
+fn is_number(text: &[u8], at: usize) -> bool {
+    if text.len() <= at {
+        return false;
+    }
+    let b = text[at];
+    if b < 48 {
+        return false;
+    }
+    b < 58
+}
+
+// A case by its number or by its word.
+fn case_at(text: &[u8], at: usize, field: Field) -> Word {
+    if is_number(text, at) {
+        return number_at(text, at);
+    }
+    let w = name_at(text, at);
+    Word {
+        value: case_of(field, w.value),
+        next: w.next,
+    }
+}
 
 fn put(t: &mut [u64], i: usize, v: u64) {
     if i < t.len() {
@@ -103,7 +188,7 @@ fn placement_into(
     kind: usize,
     points: usize,
 ) -> usize {
-    let w = number_at(text, at);
+    let w = case_at(text, at, Field::Placement);
     put(row, kind, w.value);
     if w.value == 2 {
         return points_into(text, w.next, row, reals, points, 2);
@@ -117,13 +202,13 @@ fn line_into(text: &[u8], at: usize, row: &mut [u64], lists: &mut [u64], reals: 
     put(row, 0, 1);
     let placement = list_into(text, at, row, lists, 1, 0);
     let rule = placement_into(text, placement, row, reals, 3, 6);
-    let w = number_at(text, rule);
+    let w = case_at(text, rule, Field::Rule);
     put(row, 4, w.value);
 }
 
 // A light's line: the existing one's number, or a new one's placement.
 fn choice_into(text: &[u8], at: usize, row: &mut [u64], reals: &mut [f64]) -> usize {
-    let w = number_at(text, at);
+    let w = case_at(text, at, Field::Choice);
     put(row, 3, w.value);
     if w.value == 1 {
         let line = number_at(text, w.next);
@@ -137,7 +222,7 @@ fn choice_into(text: &[u8], at: usize, row: &mut [u64], reals: &mut [f64]) -> us
 }
 
 fn housing_into(text: &[u8], at: usize, row: &mut [u64], reals: &mut [f64]) -> usize {
-    let w = number_at(text, at);
+    let w = case_at(text, at, Field::Given);
     put(row, 6, w.value);
     if w.value == 0 {
         return w.next;
@@ -146,7 +231,7 @@ fn housing_into(text: &[u8], at: usize, row: &mut [u64], reals: &mut [f64]) -> u
 }
 
 fn height_into(text: &[u8], at: usize, row: &mut [u64], reals: &mut [f64]) -> usize {
-    let w = number_at(text, at);
+    let w = case_at(text, at, Field::Given);
     put(row, 7, w.value);
     if w.value == 0 {
         return w.next;
@@ -172,7 +257,7 @@ fn lamp_into(text: &[u8], at: usize, row: &mut [u64], reals: &mut [f64], i: u64)
 
 // The lamps, their count in coordinates. More than there is room for make no call.
 fn lamps_into(text: &[u8], at: usize, row: &mut [u64], reals: &mut [f64]) -> usize {
-    let given = number_at(text, at);
+    let given = case_at(text, at, Field::Given);
     put(row, 9, given.value);
     if given.value == 0 {
         return given.next;
@@ -194,7 +279,7 @@ fn lamps_into(text: &[u8], at: usize, row: &mut [u64], reals: &mut [f64]) -> usi
 }
 
 fn group_into(text: &[u8], at: usize, row: &mut [u64]) {
-    let w = number_at(text, at);
+    let w = case_at(text, at, Field::Given);
     put(row, 18, w.value);
     if w.value != 0 {
         let group = number_at(text, w.next);

@@ -12,8 +12,8 @@ Inv-loop text at row₀ reals₀ n next₀ i₀ row reals next i = (length row �
 abbrev μ-loop : tie.MeasureT-loop
 μ-loop text at row₀ reals₀ n next₀ i₀ row reals next i = n - i
 
-number-at-requires : tie.Need-number-at-requires Inv-loop μ-loop
-number-at-requires c κs = search needs
+case-at-requires : tie.Need-case-at-requires Inv-loop μ-loop
+case-at-requires c κs = search needs
 
 put-requires : tie.Need-put-requires Inv-loop μ-loop
 put-requires c κs = search needs
@@ -24,8 +24,8 @@ same-length c = search needs
 returns : tie.Need-returns Inv-loop μ-loop
 returns c = search needs
 
-number-at-requires-2 : tie.Need-number-at-requires-2 Inv-loop μ-loop
-number-at-requires-2 c κs = search needs
+number-at-requires : tie.Need-number-at-requires Inv-loop μ-loop
+number-at-requires c κs = search needs
 
 put-requires-2 : tie.Need-put-requires-2 Inv-loop μ-loop
 put-requires-2 c κs = search needs
@@ -72,11 +72,11 @@ lamps-into-spec =
     (tie.spec
     Inv-loop
     μ-loop
-    number-at-requires
+    case-at-requires
     put-requires
     same-length
     returns
-    number-at-requires-2
+    number-at-requires
     put-requires-2
     same-length-2
     returns-2
