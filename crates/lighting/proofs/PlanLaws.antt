@@ -57,7 +57,7 @@ use Rattle.lighting.specs.declared.LinePlan.{LinePlan}
 use Rattle.lighting.specs.declared.LinePlan.the-variants.{Use, NoLine, Draw}
 use Rattle.lighting.specs.Group.{GroupRead, ChoiceChecked, PlanChosen, chosenPlan}
 use Rattle.lighting.specs.Housing.{housingOf, HousingRead, synthesizedOn, housingOn}
-use Rattle.lighting.specs.Plan.{planOf, draws, EndsTold, lightAnswer, planAnswer, LightRead, LightPlanned, plannedFrom, plannedAs, ChoiceMade, asksCenter, CenterAt, StoredRead, endOf, EndRead, AnchorRead, Anchored}
+use Rattle.lighting.specs.Plan.{planOf, draws, lightAnswer, planAnswer, LightRead, LightPlanned, plannedFrom, plannedAs, ChoiceMade, asksCenter, CenterAt, StoredRead, endOf, EndRead, AnchorRead, Anchored}
 
 -- ---- answers in turn
 

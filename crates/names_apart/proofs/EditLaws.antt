@@ -1,7 +1,7 @@
 -- The names apart, each edit's answer is what it was.
 use Prim.Native.Nat.{ℕ, _^_}
-use mathlib.Core.Path.{_≡_, refl, sym, ap, _∙_}
-use mathlib.Core.Bool.{Bool, true, false, not, _&&_}
+use mathlib.Core.Path.{_≡_, refl, ap, _∙_}
+use mathlib.Core.Bool.{not, _&&_}
 use mathlib.Core.Option.{Option, none, some}
 use mathlib.Core.List.{List, [], _∷_}
 use lib.Dec.{leb}
@@ -11,7 +11,7 @@ use Rattle.refusal.specs.Answer.{Answer, refused, done, _>>=_, _>>_, refuseWhen
 use Rattle.rows.specs.Lists.{orElse, every, twice, sorted}
 use Rattle.geometry.specs.Double.{f0}
 use Rattle.geometry.specs.Point.{pointOnMap}
-use Rattle.geometry.specs.Polyline.{Polyline, polylineLength}
+use Rattle.geometry.specs.Polyline.{Polyline}
 use Rattle.map.specs.Record.{RuleBody, Map}
 use Rattle.map.specs.Ceilings.{withinCeilings}
 use Rattle.map.specs.Lookup.{ruleOf, unknownIn}
@@ -23,11 +23,11 @@ use Rattle.changes.specs.ChangeFile.{listsOk}
 use Rattle.changes.specs.Running.{State, foldOk, foldFits}
 use Rattle.place.specs.declared.Placement.{Placement}
 use Rattle.place.specs.declared.Placement.the-variants.{AtLaneEnd}
-use Rattle.place.specs.Place.{Section, Placed, refuseFound, checkLaneList, laneCenterline, crossSection, placeStopLine}
+use Rattle.place.specs.Place.{Section, Placed, refuseFound, checkLaneList, crossSection, placeStopLine}
 use Rattle.names_apart.specs.Placing as place
 use Rattle.edit.specs.declared.StopLineChoice.{StopLineChoice}
 use Rattle.edit.specs.declared.StopLineChoice.the-variants.{Automatic, Existing, New, NoLine}
-use Rattle.edit.specs.Edit.{Draft, Outcome, finish, call}
+use Rattle.edit.specs.Edit.{Draft, finish, call}
 use Rattle.edit.specs.StopLine.{NewStopLine, ruleAt, lineDraft, stopLineEdit, addStopLine}
 use Rattle.edit.specs.Light.{NewTrafficSignal, Plan, use-line, use-none, draw, Planned, groupLine, checkChoice, existingStopLine, drawPlan, autoPlan, planFor, anchorFor, synthesizeSignalGeometry, housingFor, lineDrawn, planPoints, badHeight, checkHousing, lightPlan, lightDraft, lightEdit, addTrafficSignal}
 use Rattle.edit.specs.Links.{RegulatoryLinks, relinked, linksEdit, setRegulatoryLinks}

@@ -1,6 +1,6 @@
 -- The names apart, a cross-section and a placement are what they were.
 use Prim.Native.Nat.{ℕ}
-use mathlib.Core.Path.{_≡_, refl, sym, ap, _∙_}
+use mathlib.Core.Path.{_≡_, refl, ap, _∙_}
 use mathlib.Core.Bool.{Bool, true, false, not, _||_, cond}
 use mathlib.Core.Option.{Option, none, some}
 use mathlib.Core.List.{List, [], _∷_}
@@ -13,13 +13,13 @@ use Rattle.geometry.specs.declared.NearestPoint.{NearestPoint}
 use Rattle.geometry.specs.Double.{_⊖_, f0, milli, isFinite, clamp}
 use Rattle.geometry.specs.Point.{xy, perp}
 use Rattle.geometry.specs.Polyline.{Polyline, polylineLength, pointAt, directionAt, nearestPoint}
-use Rattle.map.specs.Record.{BoundaryRef, Lane, Map}
+use Rattle.map.specs.Record.{BoundaryRef, Map}
 use Rattle.map.specs.Lookup.{laneOf, oriented}
 use Rattle.place.specs.declared.Placement.{Placement}
 use Rattle.place.specs.declared.Placement.the-variants.{AtLaneEnd, AtStation, Given}
 use Rattle.place.specs.declared.LaneSide.the-variants.{Left, Right}
 use Rattle.place.specs.declared.EndName.{EndName}
-use Rattle.place.specs.Place.{End, Ends, Section, Placed, outer, widened, withSide, withLane, withLanes, section, crossSection, laneCenterline, checkPolyline, placeAt, placeAs, placeStopLine}
+use Rattle.place.specs.Place.{End, Ends, Section, outer, widened, withSide, withLane, withLanes, section, crossSection, laneCenterline, checkPolyline, placeAt, placeAs, placeStopLine}
 use Rattle.place.specs.Steps.{noEnds}
 use Rattle.names_apart.specs.Placing as old
 use Rattle.names_apart.specs.Apart.{withResult, bare}

@@ -1,12 +1,12 @@
 -- The three edits as they were defined before a line's ends had names; what stands twice is what names the ends now.
 use Prim.Native.Nat.{ℕ, _^_}
-use mathlib.Core.Bool.{Bool, true, false, not, _&&_, cond}
+use mathlib.Core.Bool.{not, _&&_}
 use mathlib.Core.Option.{Option, none, some}
 use mathlib.Core.List.{List, [], _∷_, _++_}
 use lib.Dec.{leb}
 use lib.ListN.{getD}
 use lib.Ieee.{Float}
-use Rattle.refusal.specs.Answer.{Answer, refused, done, _>>=_, _>>_, refuseWhen, present}
+use Rattle.refusal.specs.Answer.{Answer, done, _>>=_, _>>_, refuseWhen, present}
 use Rattle.rows.specs.Lists.{orElse, every, twice, sorted}
 use Rattle.rows.specs.Table.{replaced}
 use Rattle.geometry.specs.declared.Point3.{Point3}

@@ -1,7 +1,7 @@
 -- Each end of a cross-section bears the name of the boundary that it lies on, and is the first of the outermost candidates.
 use Prim.Native.Nat.{ℕ}
 use mathlib.Core.Path.{_≡_, refl, sym, ap, _∙_, subst}
-use mathlib.Core.Bool.{Bool, true, false, not, _&&_, _||_, cond}
+use mathlib.Core.Bool.{Bool, true, false, not, _||_, cond}
 use mathlib.Core.Option.{Option, none, some}
 use mathlib.Core.List.{List, [], _∷_, _++_, append-nil, append-assoc}
 use native.Mathlib.Omega.{arith}
@@ -9,15 +9,15 @@ use lib.Dec.{eqb}
 use lib.Ieee.{Float, lt, le}
 use lib.ListN.{getD}
 use borrow.Author.Tests.{not-true, eq-eqb}
-use Rattle.refusal.specs.Answer.{Answer, refused, done, _>>=_, _>>_, refuseWhen, present}
+use Rattle.refusal.specs.Answer.{refused, done, present}
 use Rattle.rows.specs.Lists.{every, member}
-use Rattle.rows.proofs.Bools.{and-i, clash, parts, or-r}
+use Rattle.rows.proofs.Bools.{and-i, clash, or-r}
 use Rattle.rows.proofs.Tables.{every-append, every-if}
 use Rattle.geometry.specs.declared.Point2.{Point2}
 use Rattle.geometry.specs.declared.Point3.{Point3}
 use Rattle.geometry.specs.declared.NearestPoint.{NearestPoint}
 use Rattle.geometry.specs.Double.{_⊖_, milli, f0, isFinite, clamp}
-use Rattle.geometry.specs.Point.{xy, sub2, dot, perp}
+use Rattle.geometry.specs.Point.{xy, perp}
 use Rattle.geometry.specs.Polyline.{Polyline, polylineLength, pointAt, directionAt, nearestPoint}
 use Rattle.map.specs.Record.{BoundaryRef, Lane, Map}
 use Rattle.map.specs.Lookup.{laneOf, oriented}

@@ -2,28 +2,28 @@
 use Prim.Native.Nat.{ℕ}
 use mathlib.Core.Path.{_≡_, refl, sym, ap, _∙_, subst}
 use mathlib.Core.Option.{Option, none, some}
-use mathlib.Core.List.{List, [], _∷_, _++_}
+use mathlib.Core.List.{List, [], _∷_}
 use lib.Ieee.{Float}
 use lib.ListN.{getD}
-use Rattle.refusal.specs.Answer.{Answer, refused, done, _>>=_, _>>_, refuseWhen, present}
+use Rattle.refusal.specs.Answer.{done, present}
 use Rattle.rows.specs.Lists.{orElse, twice, sorted}
 use Rattle.geometry.specs.Double.{f0}
-use Rattle.map.specs.Record.{RuleBody, Rule, LineString, Map}
+use Rattle.map.specs.Record.{RuleBody, Rule, Map}
 use Rattle.map.specs.Lookup.{ruleOf, unknownIn}
 use Rattle.map.specs.Rows.{fresh}
 use Rattle.place.specs.declared.Placement.{Placement}
 use Rattle.place.specs.declared.Placement.the-variants.{AtLaneEnd}
-use Rattle.place.specs.Place.{Placed, checkLaneList, placeStopLine, refuseFound}
+use Rattle.place.specs.Place.{checkLaneList, placeStopLine, refuseFound}
 use Rattle.place.proofs.EndLaws.{place-ends}
-use Rattle.place.proofs.Answers.{never, done-is, went, next, past}
+use Rattle.place.proofs.Answers.{done-is, went, next, past}
 use Rattle.edit.specs.declared.StopLineChoice.{StopLineChoice}
 use Rattle.edit.specs.declared.StopLineChoice.the-variants.{Automatic, Existing, New, NoLine}
 use Rattle.edit.specs.Edit.{Draft}
 use Rattle.edit.specs.StopLine.{NewStopLine, ruleAt, lineDraft, stopLineEdit}
-use Rattle.edit.specs.Light.{NewTrafficSignal, Plan, use-line, use-none, draw, Planned, Drawing, drawPlan, autoPlan, planFor, lineDrawn, planEnds, signalDrawn, newSignal, grouped, groupRule, liftAll, existingStopLine, lightPlan, lightDraft, lightEdit}
+use Rattle.edit.specs.Light.{NewTrafficSignal, Plan, Planned, Drawing, drawPlan, autoPlan, planFor, lineDrawn, planEnds, signalDrawn, grouped, groupRule, liftAll, existingStopLine, lightPlan, lightDraft, lightEdit}
 use Rattle.edit.specs.Links.{RegulatoryLinks, relinked, linksEdit}
 use Rattle.run.specs.Run.{line, signal, links}
-use Rattle.run.specs.LineEnds.{LineTold, PlacedEnds, NoEnds, autoEnds, choiceEnds, LightEnds, endsAnswered}
+use Rattle.run.specs.LineEnds.{LineTold, PlacedEnds, NoEnds, autoEnds, choiceEnds, endsAnswered}
 use Rattle.run.proofs.LightStep.{plans}
 
 -- what a draft tells

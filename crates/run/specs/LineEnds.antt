@@ -5,12 +5,11 @@ use mathlib.Core.Option.{Option, none, some}
 use mathlib.Core.List.{List, [], _∷_, _++_}
 use lib.Ieee.{Float}
 use lib.ListN.{getD}
-use Rattle.refusal.specs.Answer.{Answer, done}
+use Rattle.refusal.specs.Answer.{done}
 use Rattle.rows.specs.Lists.{orElse}
 use Rattle.geometry.specs.Double.{f0}
 use Rattle.map.specs.Record.{LineString, Map}
 use Rattle.map.specs.Rows.{fresh}
-use Rattle.changes.specs.Running.{State}
 use Rattle.place.specs.declared.Placement.{Placement}
 use Rattle.place.specs.declared.Placement.the-variants.{AtLaneEnd}
 use Rattle.place.specs.declared.SectionNames.{SectionNames}
