@@ -1,5 +1,5 @@
 -- The records of a map as one rising list of references; lists that name what changed between two maps are parts of these.
-use mathlib.Core.Path.{_≡_, refl, sym, ap}
+use mathlib.Core.Path.{_≡_, refl, sym, ap, _∙_}
 use mathlib.Core.Bool.{Bool, true, false, not, _&&_, _||_, and-assoc, and-comm}
 use mathlib.Core.List.{List, [], _∷_, _++_}
 use Prim.Native.Nat.{ℕ, suc, _+_, _≤_}
@@ -7,7 +7,7 @@ use lib.Dec.{eqb, leb}
 use lib.ListN.{length, length-append}
 use native.Mathlib.Omega.{arith}
 use borrow.Author.Tests.{leb-true, le-leb, not-true}
-use Rattle.rows.specs.Lists.{keep}
+use Rattle.rows.specs.Lists.{every, keep}
 use Rattle.rows.specs.Table.{holds, rising}
 use Rattle.rows.proofs.Bools.{parts, and-i, clash, and-no, or-no}
 use Rattle.map.specs.Ceilings.{maxLanes, maxBoundaries, maxStopLines, maxSignals, maxCrosswalks, maxRules}
@@ -20,7 +20,7 @@ use Rattle.changes.specs.ChangeFile.{listsOk, listsApart, entry, entries, apart
 use Rattle.changes.specs.ChangeSet.{ChangeSet}
 use Rattle.changes.specs.Running.{foldFits}
 use Rattle.changes.proofs.Entries.{has-fits, entries-fit}
-use Rattle.changes.proofs.Refs.{every-listed, Earlier, by-kind, by-num, before, listed-append, listed-keep, rise-rising, rising-same, keep-rising, keep-count, same-as}
+use Rattle.changes.proofs.Refs.{every-listed, listed-every, Earlier, by-kind, by-num, before, listed-append, listed-keep, rise-rising, rising-same, keep-rising, keep-count, same-as}
 
 module _ {A : Type 0} (num : A → ℕ) where
   refsAs : ℕ → List A → List EntityRef
@@ -99,6 +99,22 @@ refs-few m ok =
     let e = leb-true (length (m .crosswalks)) maxCrosswalks (table-few (λ (x : Crosswalk). x .num) maxCrosswalks crosswalk (m .next) (m .crosswalks) (p .crosswalks)) in
     let f = leb-true (length (m .rules)) maxRules (table-few (λ (x : Rule). x .num) maxRules rule (m .next) (m .rules) (p .rules)) in
     omega arith
+
+-- so a rising list of records that are on a map, such as a fold's that passes 13, has at most 480 entries
+pub present-few : (m : Map) → isMap m ≡ true → (xs : List EntityRef) → risingRefs xs ≡ true → every (has m) xs ≡ true → length xs ≤ 480
+present-few m ok xs up there =
+    let part = rising-same xs (keep (listed xs) (refsOf m)) up (keep-rising (listed xs) (refsOf m) (refs-rising m ok)) same in
+    let a = keep-count (listed xs) (refsOf m) in
+    let b = refs-few m ok in
+    let c = ap length part in
+    omega arith
+  where
+    go : (a : EntityRef) (t : Bool) → listed xs a ≡ t → t ≡ (has m a && t)
+    go a true e = rw (listed-every (has m) xs a there e)
+    go a false e = sym (and-no (has m a))
+
+    same : (a : EntityRef) → listed xs a ≡ listed (keep (listed xs) (refsOf m)) a
+    same a = go a (listed xs a) refl ∙ sym (listed-keep (listed xs) (refsOf m) a ∙ rw (refs-has m a))
 
 -- ---- lists that name what became of the records between the maps m and n
 

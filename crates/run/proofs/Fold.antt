@@ -185,6 +185,7 @@ pub record Finished (s : State) (d : Draft) (o : Outcome) : Type 0 where
   pub ceilings : withinCeilings (d .map) ≡ true
   pub fits : foldFits (foldStep (s .fold) (normalize (d .changes))) ≡ true
   pub spent : d .map .next < 2 ^ 64
+  pub number : o .id ≡ d .id
   pub state : o .state ≡ record { map = d .map; fold = foldStep (s .fold) (normalize (d .changes)); tally = tallyOf (foldStep (s .fold) (normalize (d .changes))) }
   pub changes : o .changes ≡ normalize (d .changes)
   pub ends : o .ends ≡ d .ends
@@ -204,7 +205,7 @@ finished s d o e = go (every pointOnMap (d .stored)) (withinCeilings (d .map)) (
     go true true true true pe qe re te e = let z : _≡_ {A = ℕ} 0 1 = cc in absurd (omega arith)
     go true true true false pe qe re te e =
         let q : o ≡ end = cc in
-        record { stored = pe; ceilings = qe; fits = re; spent = leb-false (2 ^ 64) (d .map .next) te; state = ap (λ (x : Outcome). x .state) q; changes = ap (λ (x : Outcome). x .changes) q; ends = ap (λ (x : Outcome). x .ends) q }
+        record { stored = pe; ceilings = qe; fits = re; spent = leb-false (2 ^ 64) (d .map .next) te; number = ap (λ (x : Outcome). x .id) q; state = ap (λ (x : Outcome). x .state) q; changes = ap (λ (x : Outcome). x .changes) q; ends = ap (λ (x : Outcome). x .ends) q }
 
 pub kept-step : (m : Map) (alt : EntityRef → Bool) (s : State) (d : Draft) (o : Outcome) → Kept m alt s → StepLaw (s .map) d → Finished s d o
     → Kept m (λ a. alt a || alters (s .map) (o .state .map) a) (o .state)

@@ -1,5 +1,5 @@
 mod Told
-mod Counts
+pub mod Counts
 mod Fold
 mod Shape
 mod Answers

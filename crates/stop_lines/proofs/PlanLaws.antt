@@ -93,7 +93,7 @@ draft-is a m p StopSign = refl
 draft-is a m p Marking = refl
 draft-is a m p NoRule = refl
 
-edit-is : (a : NewStopLine) (m : Map) → stopLineEdit a m ≡ (checkLaneList m (a .lanes) >> (placeStopLine m (a .lanes) (a .placement) (a .points) >>= λ p. done (placedDraft (a .rule) (a .lanes) m p)))
+pub edit-is : (a : NewStopLine) (m : Map) → stopLineEdit a m ≡ (checkLaneList m (a .lanes) >> (placeStopLine m (a .lanes) (a .placement) (a .points) >>= λ p. done (placedDraft (a .rule) (a .lanes) m p)))
 unfolding stopLineEdit
 edit-is a m = ap (λ (x : Answer Draft). checkLaneList m (a .lanes) >> x) (go (placeStopLine m (a .lanes) (a .placement) (a .points)))
   where
