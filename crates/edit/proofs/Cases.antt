@@ -78,6 +78,24 @@ full-line : sameList (setOf (placed StopSign (AtLaneEnd f0) [] (withMore 133 (li
 unfolding open-stop-line open-light neg
 full-line = refl
 
+-- 63 lines and two signals: a line more is taken, since signals have places of their own
+abbrev manyLines : State
+manyLines =
+    let m = freshMap (whole 2) in
+    opening (record {
+      next = 200;
+      lanes = m .lanes;
+      boundaries = m .boundaries;
+      stopLines = listTo (λ i. record { num = i + 10; geometry = [] }) 63;
+      signals = listTo (λ i. record { num = i + 90; kind = 0; geometry = []; height = none; bulbs = [] }) 2;
+      crosswalks = [];
+      rules = [];
+    })
+
+last-line : sameList (setOf (placed StopSign (AtLaneEnd f0) [] manyLines)) (2 ∷ 5 ∷ 0xC8 ∷ 1 ∷ 8 ∷ 0xC9 ∷ 1 ∷ 0 ∷ 0 ∷ 0 ∷ []) ≡ true
+unfolding open-stop-line neg
+last-line = refl
+
 -- only a crosswalk rule and a right-of-way rule name line 4 on lane 3: a light draws line 7
 abbrev crossed : State
 crossed =

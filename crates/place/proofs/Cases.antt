@@ -2,6 +2,7 @@
 use Prim.Native.Nat.{ℕ}
 use mathlib.Core.Path.{_≡_, refl}
 use mathlib.Core.Bool.{Bool, true, false}
+use mathlib.Core.Option.{none}
 use mathlib.Core.List.{List, [], _∷_, _++_}
 use lib.Ieee.{Float, neg}
 use lib.ListN.{length}
@@ -11,6 +12,7 @@ use Rattle.geometry.specs.Double.{whole, decimal, f0}
 use Rattle.geometry.specs.Point.{at3}
 use Rattle.codec.specs.Format
 use Rattle.codec.specs.Format.{Bytes}
+use Rattle.map.specs.Record.{Map}
 use Rattle.map.specs.MapFile.{polyline, open-map-file}
 use Rattle.place.specs.declared.Placement.{Placement}
 use Rattle.place.specs.declared.Placement.the-variants.{AtLaneEnd, AtStation}
@@ -36,3 +38,22 @@ places : sameList
     ++ (0 ∷ 6 ∷ 5 ∷ []) ++ across 0 (whole 10) (decimal 51 100000) ++ (0 ∷ 4 ∷ 2 ∷ [])) ≡ true
 unfolding open-place open-map-file neg
 places = refl
+
+-- a shorter lane beside lane 3 plays no part
+abbrev beside : Map
+beside =
+    let m = freshMap (whole 2) in
+    record {
+      next = 7;
+      lanes = m .lanes ++ (record { num = 6; kind = 0; left = record { boundary = 4; reversed = false }; right = record { boundary = 5; reversed = false }; centerline = none } ∷ []);
+      boundaries = m .boundaries ++ (record { num = 4; geometry = at3 f0 (whole 6) f0 ∷ at3 (whole 5) (whole 6) f0 ∷ [] } ∷ record { num = 5; geometry = at3 f0 (whole 4) f0 ∷ at3 (whole 5) (whole 4) f0 ∷ [] } ∷ []);
+      stopLines = [];
+      signals = [];
+      crosswalks = [];
+      rules = [];
+    }
+
+shorter-lane : sameList (shown (placeStopLine beside (3 ∷ []) (AtLaneEnd f0) []) ++ shown (placeStopLine beside (6 ∷ []) (AtLaneEnd f0) []))
+    (across 0 (whole 10) (whole 2) ++ (1 ∷ 0 ∷ polyline .write (at3 (whole 5) (whole 6) f0 ∷ at3 (whole 5) (whole 4) f0 ∷ []))) ≡ true
+unfolding open-place open-map-file neg
+shorter-lane = refl

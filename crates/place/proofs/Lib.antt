@@ -6,3 +6,4 @@ pub mod Sound
 pub mod LineLaws
 pub mod SectionLaws
 pub mod EndLaws
+pub mod SameLanes
