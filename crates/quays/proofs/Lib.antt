@@ -1,0 +1,3 @@
+mod Answered
+pub mod Calls
+pub mod Needed

@@ -1,0 +1,2 @@
+pub mod Quays
+pub mod Needed
