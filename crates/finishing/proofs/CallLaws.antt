@@ -80,7 +80,7 @@ checks-are true i false v x f = refl
 checks-are true i true false x f = rw (f refl)
 checks-are true i true true x f = rw (f refl)
 
-bind-then : {A B C : Type 0} (a : Answer A) (b : Answer B) (f : B → Answer C) → (a >> (b >>= f)) ≡ ((a >> b) >>= f)
+pub bind-then : {A B C : Type 0} (a : Answer A) (b : Answer B) (f : B → Answer C) → (a >> (b >>= f)) ≡ ((a >> b) >>= f)
 bind-then (refused n ds) b f = refl
 bind-then (done x) b f = refl
 

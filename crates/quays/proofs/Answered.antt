@@ -1,8 +1,8 @@
 -- Two quays give the same answer to a stop line.
-use Prim.Native.Nat.{ℕ, _+_, _^_, _≤_, max}
+use Prim.Native.Nat.{ℕ, _^_, _≤_}
 use mathlib.Core.Path.{_≡_, refl, sym, ap, ap₂, _∙_}
 use mathlib.Core.Bool.{Bool, true, false, not, _&&_}
-use mathlib.Core.Option.{none, some}
+use mathlib.Core.Option.{some}
 use mathlib.Core.List.{List, []}
 use native.Mathlib.Omega.{arith}
 use lib.Dec.{leb}
@@ -14,13 +14,12 @@ use Rattle.rows.proofs.Bools.{parts, and-i}
 use Rattle.rows.proofs.Tables.{find-append, find-above}
 use Rattle.geometry.specs.Point.{pointOnMap}
 use Rattle.geometry.specs.Polyline.{Polyline}
-use Rattle.map.specs.Record.{LineString, RuleBody, sign, marking, Rule, Map}
+use Rattle.map.specs.Record.{LineString, Map}
 use Rattle.map.specs.Lookup.{lineOf}
-use Rattle.map.specs.Ceilings.{maxStopLines, maxSignals, maxRules, maxRuleEntries, maxPoints, atMost, lineWithin, lineStringWithin, bodyWithin, ruleWithin, bodyPoints, points, withinCeilings}
+use Rattle.map.specs.Ceilings.{points, withinCeilings}
 use Rattle.map.specs.MapFile.{isMap}
-use Rattle.map.specs.Rows.{fresh, withLine, withRule}
+use Rattle.map.specs.Rows.{fresh, withLine}
 use Rattle.map.proofs.ByKind.{up₅}
-use Rattle.map.proofs.Parts.{rules-within}
 use Rattle.changes.specs.ChangeSet.{ChangeSet, normalize, foldStep}
 use Rattle.changes.specs.ChangeFile.{listsOk}
 use Rattle.changes.specs.Running.{State, opening, foldOk, foldFits}
@@ -32,11 +31,10 @@ use Rattle.place.proofs.SameLanes.{SameLanes, oriented-same, placed-same}
 use Rattle.edit.specs.declared.StopRule.{StopRule}
 use Rattle.edit.specs.declared.StopRule.the-variants.{StopSign, Marking, NoRule}
 use Rattle.edit.specs.Edit.{Draft, Outcome, finish, call}
-use Rattle.edit.specs.StopLine.{NewStopLine, ruleAt, lineDraft, addStopLine}
-use Rattle.finishing.specs.Grown.{grownWithin}
-use Rattle.finishing.proofs.CallLaws.{outcomeOf}
-use Rattle.finishing.proofs.CeilingLaws.{few-signals, within-grown, points-line, points-rule, grown-line, grown-any, every-more, length-more}
+use Rattle.edit.specs.StopLine.{NewStopLine, ruleAt, lineDraft, stopLineEdit, addStopLine}
+use Rattle.finishing.proofs.CallLaws.{outcomeOf, bind-then}
 use Rattle.stop_lines.specs.Stop.{placedDraft}
+use Rattle.stop_lines.proofs.RoomLaws.{map-room}
 use Rattle.stop_lines.proofs.PlanLaws.{edit-is}
 use Rattle.run.specs.Run.{Edit, line, runOne, runAll}
 use Rattle.run.specs.Law.{passes}
@@ -83,28 +81,6 @@ fold-takes s c ok few =
     and-i _ _ (and-i _ _ (le-leb (length (foldStep (s .fold) (normalize c) .created)) 512 (omega arith)) (le-leb (length (foldStep (s .fold) (normalize c) .modified)) 512 (omega arith)))
     (le-leb (length (foldStep (s .fold) (normalize c) .deleted)) 512 (omega arith))
 
--- ---- the map's room, by its counts
-
-no-signals : (m : Map) → isMap m ≡ true → leb (length (m .signals) + 0) maxSignals ≡ true
-no-signals m ok = let e : length (m .signals) + 0 ≡ length (m .signals) = omega arith in rw e (few-signals m ok)
-
--- for a line and as many rules as there are then, each new one within its own ceilings: what is left of the seven tests of a grown map
-abbrev roomBy : ℕ → ℕ → Bool → ℕ → Polyline → Bool
-roomBy lines rules rule used xs = leb (lines + 1) maxStopLines && true && leb rules maxRules && (lineWithin xs && true) && true && rule && leb used maxPoints
-
-module _ (m : Map) (ok : isMap m ≡ true) (xs : Polyline) where
-  line-room : withinCeilings (withLine m xs) ≡ roomBy (length (m .stopLines)) (length (m .rules)) true (points m + length xs) xs
-  unfolding grownWithin every lineStringWithin
-  line-room = within-grown m (withLine m xs) _ [] (grown-line m xs) ok ∙ rw (no-signals m ok, rules-within m ok, points-line m xs)
-
-  rule-room : (w : RuleBody) (ls : List ℕ)
-      → withinCeilings (withRule (withLine m xs) w ls) ≡ roomBy (length (m .stopLines)) (length (m .rules) + 1) (bodyWithin w && atMost maxRuleEntries ls && true) (points m + length xs + bodyPoints w) xs
-  unfolding grownWithin every lineStringWithin ruleWithin
-  rule-room w ls =
-      let new : Rule = record { num = fresh (withLine m xs); body = w; lanes = ls; controlled = [] } in
-      within-grown m (withRule (withLine m xs) w ls) _ [] (grown-any m (withLine m xs) (withRule (withLine m xs) w ls) _ [] (grown-line m xs) refl refl refl refl refl) ok
-      ∙ rw (no-signals m ok, length-more (m .rules) new, every-more ruleWithin (m .rules) new (rules-within m ok), points-rule (withLine m xs) w ls, points-line m xs)
-
 -- ---- a placed line's draft
 
 -- the line under its number
@@ -120,33 +96,27 @@ record SameEnd (s t : State) (d e : Draft) : Type 0 where
   outcome : SameOutcome (outcomeOf s d) (outcomeOf t e)
 
 module _ (s t : State) (oks : isMap (s .map) ≡ true) (okt : isMap (t .map) ≡ true) (r : SameRoom (s .map) (t .map)) (ls : List ℕ) (p : Placed) where
-  with-rule : (w : RuleBody) → withinCeilings (withRule (withLine (s .map) (p .points)) w ls) ≡ withinCeilings (withRule (withLine (t .map) (p .points)) w ls)
-  with-rule w = rule-room (s .map) oks (p .points) w ls ∙ rw (r .lines, r .rules, r .used) (sym (rule-room (t .map) okt (p .points) w ls))
-
-  without-rule : withinCeilings (withLine (s .map) (p .points)) ≡ withinCeilings (withLine (t .map) (p .points))
-  without-rule = line-room (s .map) oks (p .points) ∙ rw (r .lines, r .rules, r .used) (sym (line-room (t .map) okt (p .points)))
+  room-same : (rule : StopRule) → withinCeilings (placedDraft rule ls (s .map) p .map) ≡ withinCeilings (placedDraft rule ls (t .map) p .map)
+  room-same rule = map-room (s .map) oks p ls rule ∙ rw (r .lines, r .rules, r .used) (sym (map-room (t .map) okt p ls rule))
 
   line-same : lineOf (withLine (s .map) (p .points)) (fresh (s .map)) ≡ lineOf (withLine (t .map) (p .points)) (fresh (t .map))
   line-same = new-line (s .map) oks (p .points) ∙ rw (r .next) (sym (new-line (t .map) okt (p .points)))
 
   -- numbers go by the next one
-  draft-same : (rule : StopRule) → SameEnd s t (placedDraft rule ls (s .map) p) (placedDraft rule ls (t .map) p)
+  outcome-same : (rule : StopRule) → SameOutcome (outcomeOf s (placedDraft rule ls (s .map) p)) (outcomeOf t (placedDraft rule ls (t .map) p))
   unfolding placedDraft lineDraft ruleAt lineOf
-  draft-same StopSign = record {
-    stored = refl;
-    within = ap (λ (k : ℕ). withinCeilings (withRule (withLine (s .map) (p .points)) (sign 1 none (some (max 1 k))) ls)) (r .next) ∙ with-rule (sign 1 none (some (fresh (t .map))));
-    outcome = record { number = rw (r .next); changes = rw (r .next); ends = refl; next = rw (r .next); line = line-same };
-  }
-  draft-same Marking = record {
-    stored = refl;
-    within = ap (λ (k : ℕ). withinCeilings (withRule (withLine (s .map) (p .points)) (marking (max 1 k)) ls)) (r .next) ∙ with-rule (marking (fresh (t .map)));
-    outcome = record { number = rw (r .next); changes = rw (r .next); ends = refl; next = rw (r .next); line = line-same };
-  }
-  draft-same NoRule = record {
-    stored = refl;
-    within = without-rule;
-    outcome = record { number = rw (r .next); changes = rw (r .next); ends = refl; next = rw (r .next); line = line-same };
-  }
+  outcome-same StopSign = record { number = rw (r .next); changes = rw (r .next); ends = refl; next = rw (r .next); line = line-same }
+  outcome-same Marking = record { number = rw (r .next); changes = rw (r .next); ends = refl; next = rw (r .next); line = line-same }
+  outcome-same NoRule = record { number = rw (r .next); changes = rw (r .next); ends = refl; next = rw (r .next); line = line-same }
+
+  stored-same : (rule : StopRule) → placedDraft rule ls (s .map) p .stored ≡ placedDraft rule ls (t .map) p .stored
+  unfolding placedDraft lineDraft ruleAt
+  stored-same StopSign = refl
+  stored-same Marking = refl
+  stored-same NoRule = refl
+
+  draft-same : (rule : StopRule) → SameEnd s t (placedDraft rule ls (s .map) p) (placedDraft rule ls (t .map) p)
+  draft-same rule = record { stored = stored-same rule; within = room-same rule; outcome = outcome-same rule }
 
 draft-few : (rule : StopRule) (ls : List ℕ) (m : Map) (p : Placed) → Few (placedDraft rule ls m p .changes)
 unfolding placedDraft lineDraft ruleAt
@@ -175,18 +145,19 @@ finish-same s t d e q f g = alike (ap (every pointOnMap) (q .stored)) (ap₂ _&&
 
 -- ---- the call
 
+edit-by : (a : NewStopLine) (m : Map) → stopLineEdit a m ≡ (placedFor a m >>= λ p. done (placedDraft (a .rule) (a .lanes) m p))
+edit-by a m = edit-is a m ∙ bind-then (checkLaneList m (a .lanes)) (placeStopLine m (a .lanes) (a .placement) (a .points)) _
+
 past-tests : (a : NewStopLine) (s : State) → passes s ≡ true → addStopLine a s ≡ (placedFor a (s .map) >>= λ p. finish s (placedDraft (a .rule) (a .lanes) (s .map) p))
 unfolding addStopLine call passes
 past-tests a s ok =
     let map : isMap (s .map) ≡ true = search parts in
     let fold : (listsOk (s .fold) && foldOk s) ≡ true = and-i (listsOk (s .fold)) (foldOk s) (search parts) (search parts) in
-    rw (map, fold, edit-is a (s .map)) (go (checkLaneList (s .map) (a .lanes)) (placeStopLine (s .map) (a .lanes) (a .placement) (a .points)))
+    rw (map, fold, edit-by a (s .map)) (go (placedFor a (s .map)))
   where
-    go : (x : Answer (Unit {0})) (y : Answer Placed)
-        → ((x >> (y >>= λ p. done (placedDraft (a .rule) (a .lanes) (s .map) p))) >>= λ d. finish s d) ≡ ((x >> y) >>= λ p. finish s (placedDraft (a .rule) (a .lanes) (s .map) p))
-    go (refused n ds) y = refl
-    go (done u) (refused n ds) = refl
-    go (done u) (done p) = refl
+    go : (x : Answer Placed) → ((x >>= λ p. done (placedDraft (a .rule) (a .lanes) (s .map) p)) >>= λ d. finish s d) ≡ (x >>= λ p. finish s (placedDraft (a .rule) (a .lanes) (s .map) p))
+    go (refused n ds) = refl
+    go (done p) = refl
 
 is-map : (s : State) → passes s ≡ true → isMap (s .map) ≡ true
 unfolding passes
@@ -219,13 +190,9 @@ pub line-stored : (a : NewStopLine) (s : State) (o : Outcome) → addStopLine a 
 unfolding runOne
 line-stored a s o e =
     let w = ended (line a) s o e in
-    let v = went (placedFor a (s .map)) (λ p. done (placedDraft (a .rule) (a .lanes) (s .map) p)) (w .draft) (regroup (checkLaneList (s .map) (a .lanes)) _ ∙ sym (edit-is a (s .map)) ∙ w .drawn) in
+    let v = went (placedFor a (s .map)) (λ p. done (placedDraft (a .rule) (a .lanes) (s .map) p)) (w .draft) (sym (edit-by a (s .map)) ∙ w .drawn) in
     record { placed = v .value; placed-is = v .first; line = stands (w .map) (w .draft) (v .value) (ap (λ (t : State). t .map) (w .end .state)) (w .end .number) (done-is (v .rest)) }
   where
-    regroup : (x : Answer (Unit {0})) (y : Answer Placed) → ((x >> y) >>= λ p. done (placedDraft (a .rule) (a .lanes) (s .map) p)) ≡ (x >> (y >>= λ p. done (placedDraft (a .rule) (a .lanes) (s .map) p)))
-    regroup (refused n ds) y = refl
-    regroup (done u) y = refl
-
     stands : isMap (s .map) ≡ true → (d : Draft) (p : Placed) → o .state .map ≡ d .map → o .id ≡ d .id → placedDraft (a .rule) (a .lanes) (s .map) p ≡ d
         → lineOf (o .state .map) (o .id) ≡ some (record { num = o .id; geometry = p .points })
     stands ok d p m n q = rw (m, n, ← q) (draft-line (a .rule) (a .lanes) (s .map) ok p)

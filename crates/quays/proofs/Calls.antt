@@ -1,7 +1,7 @@
 -- The code's calls on two quays return the same.
 use Prim.Native.Nat.{ℕ}
 use mathlib.Core.Path.{_≡_, refl, sym, ap, ap₂, _∙_}
-use mathlib.Core.Bool.{cond}
+use mathlib.Core.Bool.{true, cond}
 use mathlib.Core.List.{List}
 use native.Mathlib.Omega.{arith}
 use lib.Dec.{eqb}
@@ -10,6 +10,10 @@ use borrow.Author.Tests.{eq-eqb}
 use Rattle.refusal.specs.Refusal.{refusalNumber, refusalDetails}
 use Rattle.refusal.specs.declared.Refusal.{Refusal}
 use Rattle.refusal.specs.declared.Refusal.the-variants.{NoLanes, Unknown, ListedTwice, BadMeasure, BadShape, NoPlace, WrongGroup, WrongLink, OffTheMap, Full, NumbersSpent, BadMap, BadSet, ShortBuffer}
+use Rattle.rows.proofs.Bools.{parts}
+use Rattle.store.specs.Layout.{allWords, allCoords}
+use Rattle.map.specs.MapFile.{isMap}
+use Rattle.map.specs.Tables.{mapOf, isMapTables}
 use Rattle.changes.specs.Layout.{setWords}
 use Rattle.place.specs.declared.MaybeEnds.{MaybeEnds}
 use Rattle.place.specs.declared.MaybeEnds.the-variants as e
@@ -18,7 +22,8 @@ use Rattle.edit.specs.declared.Called.{Called}
 use Rattle.edit.specs.declared.Called.the-variants as c
 use Rattle.edit.specs.Lent.{Lent, stateOf, lentCall, answered, CallLeft}
 use Rattle.edit.specs.StopLine.{NewStopLine, addStopLine}
-use Rattle.quays.specs.Quays.{SameAnswer, Passed, BothLeft, TwoQuays}
+use Rattle.run.specs.Law.{passes}
+use Rattle.quays.specs.Quays.{SameAnswer, LentPasses, BothLeft, TwoQuays}
 use Rattle.quays.proofs.Answered.{placed-alike, answers-same, runs-same, line-stored}
 
 -- ---- a refusal is told by its number and details
@@ -65,9 +70,18 @@ same-value (c.Refused r) (c.Refused u) x y q = ap c.Refused (same-refusal r u (q
 
 -- ---- the calls
 
-lent-call : (call : _) (l : Lent) → Passed l → lentCall call l ≡ call (stateOf l)
-unfolding lentCall
-lent-call call l p = rw (p .tables, eq-eqb (length (l .fold)) setWords (p .fold), eq-eqb (length (l .set)) setWords (p .set))
+lent-call : (call : _) (l : Lent) → LentPasses l → lentCall call l ≡ call (stateOf l)
+unfolding lentCall isMapTables passes
+lent-call call l p =
+    let sound = p .state in
+    let map : isMap (mapOf (l .words) (l .coords)) ≡ true = search parts in
+    rw (
+      eq-eqb (length (l .words)) allWords (p .words),
+      eq-eqb (length (l .coords)) allCoords (p .coords),
+      map,
+      eq-eqb (length (l .fold)) setWords (p .fold),
+      eq-eqb (length (l .set)) setWords (p .set),
+    )
 
 module _ (a : NewStopLine) (x y : Lent) (r u : Called) (x′ y′ : Lent) (left : CallLeft (addStopLine a) x r x′) (left′ : CallLeft (addStopLine a) y u y′) where
   pub both-left : BothLeft a x y r u x′ y′

@@ -11,7 +11,8 @@ use Rattle.map.specs.Record.{Lane, Map}
 use Rattle.map.specs.Lookup.{laneOf, boundaryOf, lineOf}
 use Rattle.map.specs.Ceilings.{points}
 use Rattle.map.specs.MapFile.{isMap}
-use Rattle.map.specs.Tables.{mapOf, isMapTables}
+use Rattle.map.specs.Tables.{mapOf}
+use Rattle.store.specs.Layout.{allWords, allCoords}
 use Rattle.changes.specs.Layout.{setWords}
 use Rattle.changes.specs.Running.{State, opening}
 use Rattle.place.specs.Place.{Placed, checkLaneList, placeStopLine}
@@ -61,7 +62,7 @@ pub record SameRoom (m n : Map) : Type 0 where
 
 -- ---- the same answer
 
--- two outcomes that a caller cannot tell apart; the rest of the two maps, their folds and tallies differ by nature
+-- what a caller is told of two accepted calls is the same; the rest of the two maps, their folds and tallies differ by nature
 pub record SameOutcome (o p : Outcome) : Type 0 where
   -- the new line's number, the change set with its warnings, the names of the line's ends
   pub number : o .id ≡ p .id
@@ -102,9 +103,10 @@ pub record SameReturn (r u : Called) (x y : Lent) : Type 0 where
   pub returned : r ≡ u
   pub answer : SameAnswer (answered r x) (answered u y)
 
--- lent memory that passes 12 and 13
-pub record Passed (l : Lent) : Type 0 where
-  pub tables : isMapTables (l .words) (l .coords) ≡ true
+-- lent memory that passes 12 and 13: four slices of their lengths, in a state that passes
+pub record LentPasses (l : Lent) : Type 0 where
+  pub words : length (l .words) ≡ allWords
+  pub coords : length (l .coords) ≡ allCoords
   pub fold : length (l .fold) ≡ setWords
   pub set : length (l .set) ≡ setWords
   pub state : passes (stateOf l) ≡ true
@@ -116,7 +118,7 @@ lentMap l = mapOf (l .words) (l .coords)
 pub record BothLeft (a : NewStopLine) (x y : Lent) (r u : Called) (x′ y′ : Lent) : Type 0 where
   pub first : CallLeft (addStopLine a) x r x′
   pub second : CallLeft (addStopLine a) y u y′
-  pub alike : Passed x → Passed y → SameQuay (a .lanes) (lentMap x) (lentMap y) → SameRoom (lentMap x) (lentMap y) → SameReturn r u x′ y′
+  pub alike : LentPasses x → LentPasses y → SameQuay (a .lanes) (lentMap x) (lentMap y) → SameRoom (lentMap x) (lentMap y) → SameReturn r u x′ y′
 
 -- ---- the promise, for every stop line that can be asked for
 
