@@ -54,14 +54,15 @@ same-lanes ls m n q k h = record {
 pub placed-alike : (a : NewStopLine) (m n : Map) → SameQuay (a .lanes) m n → placedFor a m ≡ placedFor a n
 placed-alike a m n q = placed-same m n (a .lanes) (a .placement) (a .points) (same-lanes (a .lanes) m n q)
 
--- ---- the fold has room for a line and its rule: what it has as created is on the map, and it has them neither as modified nor as deleted
+-- ---- the fold has room: what it has as created is on the map, and a line adds nothing to what is modified or deleted
 
-record Few (c : ChangeSet) : Type 0 where
+-- as a line and its rule
+record LineEntries (c : ChangeSet) : Type 0 where
   created : length (c .created) ≤ 2
   modified : length (c .modified) ≤ 0
   deleted : length (c .deleted) ≤ 0
 
-fold-takes : (s : State) (c : ChangeSet) → passes s ≡ true → Few c → foldFits (foldStep (s .fold) (normalize c)) ≡ true
+fold-takes : (s : State) (c : ChangeSet) → passes s ≡ true → LineEntries c → foldFits (foldStep (s .fold) (normalize c)) ≡ true
 unfolding passes foldFits listsOk foldOk
 fold-takes s c ok few =
     let own = few .created in
@@ -118,7 +119,7 @@ module _ (s t : State) (oks : isMap (s .map) ≡ true) (okt : isMap (t .map) ≡
   draft-same : (rule : StopRule) → SameEnd s t (placedDraft rule ls (s .map) p) (placedDraft rule ls (t .map) p)
   draft-same rule = record { stored = stored-same rule; within = room-same rule; outcome = outcome-same rule }
 
-draft-few : (rule : StopRule) (ls : List ℕ) (m : Map) (p : Placed) → Few (placedDraft rule ls m p .changes)
+draft-few : (rule : StopRule) (ls : List ℕ) (m : Map) (p : Placed) → LineEntries (placedDraft rule ls m p .changes)
 unfolding placedDraft lineDraft ruleAt
 draft-few StopSign ls m p = record { created = omega arith; modified = omega arith; deleted = omega arith }
 draft-few Marking ls m p = record { created = omega arith; modified = omega arith; deleted = omega arith }
