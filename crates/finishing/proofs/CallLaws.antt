@@ -84,11 +84,22 @@ pub bind-then : {A B C : Type 0} (a : Answer A) (b : Answer B) (f : B → Answer
 bind-then (refused n ds) b f = refl
 bind-then (done x) b f = refl
 
-tables-map : (ws : List ℕ) (cs : List Float) → isMapTables ws cs ≡ true → isMap (mapOf ws cs) ≡ true
+pub tables-map : (ws : List ℕ) (cs : List Float) → isMapTables ws cs ≡ true → isMap (mapOf ws cs) ≡ true
 unfolding isMapTables
 tables-map ws cs h = search parts
 
--- what is known once 12 and 13 are past
+-- both tests of what is lent, once they are past
+pub lent-past : (l : Lent) → lentChecks l ≡ done tt
+    → (isMapTables (l .words) (l .coords) ≡ true) × ((eqb (length (l .fold)) setWords && eqb (length (l .set)) setWords && (listsOk (changeSetOf (l .fold)) && foldOk (stateOf l))) ≡ true)
+unfolding lentChecks
+lent-past l h = go _ _ h
+  where
+    go : (t u : Bool) → (refuseWhen (not t) 12 [] >> refuseWhen (not u) 13 []) ≡ done tt → (t ≡ true) × (u ≡ true)
+    go true true e = (refl, refl)
+    go true false e = absurd (let y : _≡_ {A = ℕ} 0 1 = cc in omega arith)
+    go false u e = absurd (let y : _≡_ {A = ℕ} 0 1 = cc in omega arith)
+
+-- what is known then
 pub record LentFine (l : Lent) : Type 0 where
   pub tables : isMapTables (l .words) (l .coords) ≡ true
   pub fold : listsOkIn (l .fold) ≡ true
@@ -98,9 +109,9 @@ pub record LentFine (l : Lent) : Type 0 where
   pub below : FoldBelow (mapOf (l .words) (l .coords) .next) (changeSetOf (l .fold))
 
 pub lent-fine : (l : Lent) → lentChecks l ≡ done tt → LentFine l
-unfolding lentChecks listsOkIn
+unfolding listsOkIn
 lent-fine l h =
-    let a = go (isMapTables (l .words) (l .coords)) (eqb (length (l .fold)) setWords && eqb (length (l .set)) setWords && (listsOk (changeSetOf (l .fold)) && foldOk (stateOf l))) h in
+    let a = lent-past l h in
     let b = a .1 in
     record {
       tables = a .0;
@@ -110,11 +121,6 @@ lent-fine l h =
       set = eqb-true (length (l .set)) setWords (search parts);
       below = fold-below (stateOf l) (search parts) (search parts);
     }
-  where
-    go : (t u : Bool) → (refuseWhen (not t) 12 [] >> refuseWhen (not u) 13 []) ≡ done tt → (t ≡ true) × (u ≡ true)
-    go true true e = (refl, refl)
-    go true false e = absurd (let y : _≡_ {A = ℕ} 0 1 = cc in omega arith)
-    go false u e = absurd (let y : _≡_ {A = ℕ} 0 1 = cc in omega arith)
 
 module _ (edit : Map → Answer Draft) (l : Lent) where
   pub call-is : lentCall (call edit) l ≡ (steps edit l >>= λ d. done (outcomeOf (stateOf l) d))

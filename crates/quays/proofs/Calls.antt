@@ -1,29 +1,31 @@
 -- The code's calls on two quays return the same.
 use Prim.Native.Nat.{ℕ}
 use mathlib.Core.Path.{_≡_, refl, sym, ap, ap₂, _∙_}
-use mathlib.Core.Bool.{true, cond}
+use mathlib.Core.Bool.{true, _&&_, cond}
 use mathlib.Core.List.{List}
 use native.Mathlib.Omega.{arith}
 use lib.Dec.{eqb}
 use lib.ListN.{length, getD}
-use borrow.Author.Tests.{eq-eqb}
+use Rattle.refusal.specs.Answer.{Answer, done}
 use Rattle.refusal.specs.Refusal.{refusalNumber, refusalDetails}
 use Rattle.refusal.specs.declared.Refusal.{Refusal}
 use Rattle.refusal.specs.declared.Refusal.the-variants.{NoLanes, Unknown, ListedTwice, BadMeasure, BadShape, NoPlace, WrongGroup, WrongLink, OffTheMap, Full, NumbersSpent, BadMap, BadSet, ShortBuffer}
 use Rattle.rows.proofs.Bools.{parts}
-use Rattle.store.specs.Layout.{allWords, allCoords}
-use Rattle.map.specs.MapFile.{isMap}
-use Rattle.map.specs.Tables.{mapOf, isMapTables}
-use Rattle.changes.specs.Layout.{setWords}
+use Rattle.changes.specs.ChangeFile.{listsOk}
+use Rattle.changes.specs.Layout.{setWords, changeSetOf}
+use Rattle.changes.specs.Running.{State, foldOk}
 use Rattle.place.specs.declared.MaybeEnds.{MaybeEnds}
 use Rattle.place.specs.declared.MaybeEnds.the-variants as e
 use Rattle.place.specs.Values.{maybeEnds}
 use Rattle.edit.specs.declared.Called.{Called}
 use Rattle.edit.specs.declared.Called.the-variants as c
+use Rattle.edit.specs.Edit.{Outcome}
 use Rattle.edit.specs.Lent.{Lent, stateOf, lentCall, answered, CallLeft}
 use Rattle.edit.specs.StopLine.{NewStopLine, addStopLine}
+use Rattle.finishing.specs.Finish.{lentChecks}
+use Rattle.finishing.proofs.CallLaws.{tables-map, lent-past}
 use Rattle.run.specs.Law.{passes}
-use Rattle.quays.specs.Quays.{SameAnswer, LentPasses, BothLeft, TwoQuays}
+use Rattle.quays.specs.Quays.{SameAnswer, ReturnAlike, BothLeft, TwoQuays}
 use Rattle.quays.proofs.Answered.{placed-alike, answers-same, runs-same, line-stored}
 
 -- ---- a refusal is told by its number and details
@@ -70,28 +72,34 @@ same-value (c.Refused r) (c.Refused u) x y q = ap c.Refused (same-refusal r u (q
 
 -- ---- the calls
 
-lent-call : (call : _) (l : Lent) → LentPasses l → lentCall call l ≡ call (stateOf l)
-unfolding lentCall isMapTables passes
-lent-call call l p =
-    let sound = p .state in
-    let map : isMap (mapOf (l .words) (l .coords)) ≡ true = search parts in
-    rw (
-      eq-eqb (length (l .words)) allWords (p .words),
-      eq-eqb (length (l .coords)) allCoords (p .coords),
-      map,
-      eq-eqb (length (l .fold)) setWords (p .fold),
-      eq-eqb (length (l .set)) setWords (p .set),
-    )
+lent-passes : (l : Lent) → lentChecks l ≡ done tt → passes (stateOf l) ≡ true
+unfolding passes
+lent-passes l h =
+    let past = lent-past l h in
+    let rest = past .1 in
+    let sound = tables-map (l .words) (l .coords) (past .0) in
+    let lists : listsOk (changeSetOf (l .fold)) ≡ true = search parts in
+    let fold : foldOk (stateOf l) ≡ true = search parts in
+    rw (sound, lists, fold)
+
+lent-call : (call : State → Answer Outcome) (l : Lent) → lentChecks l ≡ done tt → lentCall call l ≡ call (stateOf l)
+unfolding lentCall
+lent-call call l h =
+    let past = lent-past l h in
+    let tables = past .0 in
+    let rest = past .1 in
+    let lengths : (eqb (length (l .fold)) setWords && eqb (length (l .set)) setWords) ≡ true = search parts in
+    rw (tables, lengths)
 
 module _ (a : NewStopLine) (x y : Lent) (r u : Called) (x′ y′ : Lent) (left : CallLeft (addStopLine a) x r x′) (left′ : CallLeft (addStopLine a) y u y′) where
+  return-alike : ReturnAlike (a .lanes) x y r u x′ y′
+  return-alike p p′ quay room = record { returned = same-value r u x′ y′ same; answer = same }
+    where
+      same : SameAnswer (answered r x′) (answered u y′)
+      same = rw (left .answer, left′ .answer, lent-call (addStopLine a) x p, lent-call (addStopLine a) y p′) (answers-same a (stateOf x) (stateOf y) (lent-passes x p) (lent-passes y p′) quay room)
+
   pub both-left : BothLeft a x y r u x′ y′
-  both-left = record {
-    first = left;
-    second = left′;
-    alike = λ p p′ quay room.
-        let same : SameAnswer (answered r x′) (answered u y′) = rw (left .answer, left′ .answer, lent-call (addStopLine a) x p, lent-call (addStopLine a) y p′) (answers-same a (stateOf x) (stateOf y) (p .state) (p′ .state) quay room) in
-        record { returned = same-value r u x′ y′ same; answer = same };
-  }
+  both-left = record { first = left; second = left′; alike = return-alike }
 
 -- ---- the promise
 
@@ -101,5 +109,5 @@ two-quays a = record {
   stored = line-stored a;
   answers = answers-same a;
   runs = runs-same a;
-  calls = both-left a;
+  calls = return-alike a;
 }

@@ -29,8 +29,8 @@ use Rattle.place.proofs.Worked.{freshMap}
 use Rattle.edit.specs.Edit.{Outcome}
 use Rattle.edit.specs.StopLine.{addStopLine, open-stop-line}
 use Rattle.run.specs.Law.{passes}
-use Rattle.quays.specs.Quays.{SameQuay, SameAnswer, Alike}
-use Rattle.quays.specs.Needed.{Item, lanes, boundaries, next, lines, rules, used, AllBut, signAtEnd, Needed, FoldNeeded}
+use Rattle.quays.specs.Quays.{SameQuay, SameAnswer}
+use Rattle.quays.specs.Needed.{Item, lanes, boundaries, next, lines, rules, used, AllBut, signBeforeEnd, signAtEnd, Needed, SpecificationNeeded, FoldNeeded}
 
 -- ---- what a caller sees of an answer, as numbers
 
@@ -53,25 +53,25 @@ abbrev drawn : ℕ → List ℕ → Polyline → List ℕ
 drawn n ends xs =
     0 ∷ n ∷ (n + 2) ∷ (changeFile .write (record { created = entity 5 n ∷ entity 8 (n + 1) ∷ []; modified = []; deleted = []; warnings = [] }) ++ (ends ++ lineString .write (record { num = n; geometry = xs })))
 
--- both states' answers are as they should be, and these differ
-abbrev answersAre : List ℕ → List ℕ → State → State → Bool
-answersAre e f s t = sameList (shown (addStopLine signAtEnd s)) e && sameList (shown (addStopLine signAtEnd t)) f && not (sameList e f)
+-- both answers are as they should be, and these differ
+abbrev answersAre : List ℕ → List ℕ → Answer Outcome → Answer Outcome → Bool
+answersAre e f x y = sameList (shown x) e && sameList (shown y) f && not (sameList e f)
 
-told-apart : (e f : List ℕ) (s t : State) → answersAre e f s t ≡ true → Alike signAtEnd s t → ⊥
-told-apart e f s t h q =
-    let x : shown (addStopLine signAtEnd s) ≡ e = same-list _ _ (search parts) in
-    let y : shown (addStopLine signAtEnd t) ≡ f = same-list _ _ (search parts) in
-    let z : e ≡ f = sym x ∙ same-shown (addStopLine signAtEnd s) (addStopLine signAtEnd t) q ∙ y in
+told-apart : (e f : List ℕ) (x y : Answer Outcome) → answersAre e f x y ≡ true → SameAnswer x y → ⊥
+told-apart e f x y h q =
+    let a : shown x ≡ e = same-list _ _ (search parts) in
+    let b : shown y ≡ f = same-list _ _ (search parts) in
+    let z : e ≡ f = sym a ∙ same-shown x y q ∙ b in
     clash (subst (λ (g : List ℕ). sameList e g ≡ true) z (list-same e)) (not-true (sameList e f) (search parts))
 
--- two opened maps with those answers
+-- two opened maps with those answers to a stop sign at the end of lane 3
 abbrev opened : List ℕ → List ℕ → Map → Map → Bool
-opened e f m n = isMap m && isMap n && answersAre e f (opening m) (opening n)
+opened e f m n = isMap m && isMap n && answersAre e f (addStopLine signAtEnd (opening m)) (addStopLine signAtEnd (opening n))
 
 is-needed : (i : Item) (m n : Map) (e f : List ℕ) → opened e f m n ≡ true → AllBut i (3 ∷ []) m n → Needed i
 is-needed i m n e f h agreed =
-    let answers = and-r (isMap m && isMap n) (answersAre e f (opening m) (opening n)) h in
-    record { first = m; second = n; opened = (search parts, search parts); agreed = agreed; apart = told-apart e f (opening m) (opening n) answers }
+    let answers = and-r (isMap m && isMap n) _ h in
+    record { first = m; second = n; opened = (search parts, search parts); agreed = agreed; apart = told-apart e f (addStopLine signAtEnd (opening m)) (addStopLine signAtEnd (opening n)) answers }
 
 -- ---- maps with lane 3 between the boundaries 1 and 2, from x = 0 to x = 10
 
@@ -167,7 +167,7 @@ shortened-agreed : AllBut lanes (3 ∷ []) lined shortened
 unfolding laneOf boundaryOf find open-ceilings
 shortened-agreed = (bounds lined shortened plain refl refl refl, record { next = refl; lines = refl; rules = refl; used = refl })
 
-centerline-needed : Needed lanes
+pub centerline-needed : Needed lanes
 centerline-needed = is-needed lanes lined shortened line5 line5Halfway shorter-lane shortened-agreed
 
 -- the points are the same, and their names are not
@@ -185,7 +185,7 @@ exchanged-agreed : AllBut lanes (3 ∷ []) worked exchanged
 unfolding laneOf boundaryOf find open-ceilings
 exchanged-agreed = (bounds worked exchanged plain refl refl refl, record { next = refl; lines = refl; rules = refl; used = refl })
 
-sides-needed : Needed lanes
+pub sides-needed : Needed lanes
 sides-needed = is-needed lanes worked exchanged line4 line4Exchanged sides-exchanged exchanged-agreed
 
 -- ---- boundaries: the left one at y = 3
@@ -284,12 +284,31 @@ needed lines = lines-needed
 needed rules = rules-needed
 needed used = points-needed
 
+-- ---- the specification: at the end of lane 3, or a metre before it
+
+abbrev line4Before : List ℕ
+line4Before = drawn 4 leftToRight (across (whole 9) (whole 2))
+
+metre-before : (isMap worked && answersAre line4 line4Before (addStopLine signAtEnd (opening worked)) (addStopLine (signBeforeEnd (whole 1)) (opening worked))) ≡ true
+unfolding open-stop-line neg
+metre-before = refl
+
+pub specification-needed : SpecificationNeeded
+specification-needed = record {
+  map = worked;
+  opened = and-l _ _ metre-before;
+  first = signAtEnd;
+  second = signBeforeEnd (whole 1);
+  same = refl;
+  apart = told-apart line4 line4Before (addStopLine signAtEnd (opening worked)) (addStopLine (signBeforeEnd (whole 1)) (opening worked)) (and-r (isMap worked) _ metre-before);
+}
+
 -- ---- the fold: one that has line 3 as created, which is not on the map
 
 abbrev foreign : State
 foreign = record { map = worked; fold = record { created = entity 5 3 ∷ []; modified = []; deleted = []; warnings = [] }; tally = record { created = 1; modified = 0; deleted = 0 } }
 
-foreign-fold : (passes (opening worked) && not (passes foreign) && answersAre line4 (13 ∷ []) (opening worked) foreign) ≡ true
+foreign-fold : (passes (opening worked) && not (passes foreign) && answersAre line4 (13 ∷ []) (addStopLine signAtEnd (opening worked)) (addStopLine signAtEnd foreign)) ≡ true
 unfolding open-stop-line passes neg
 foreign-fold = refl
 
@@ -300,5 +319,5 @@ fold-needed = record {
   same = refl;
   passing = and-l _ _ (and-l _ _ foreign-fold);
   failing = not-true (passes foreign) (and-r (passes (opening worked)) _ (and-l _ _ foreign-fold));
-  apart = told-apart line4 (13 ∷ []) (opening worked) foreign (and-r (passes (opening worked) && not (passes foreign)) _ foreign-fold);
+  apart = told-apart line4 (13 ∷ []) (addStopLine signAtEnd (opening worked)) (addStopLine signAtEnd foreign) (and-r (passes (opening worked) && not (passes foreign)) _ foreign-fold);
 }

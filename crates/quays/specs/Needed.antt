@@ -3,15 +3,16 @@ use Prim.Native.Nat.{ℕ}
 use mathlib.Core.Path.{_≡_}
 use mathlib.Core.Bool.{true, false}
 use mathlib.Core.List.{List, [], _∷_}
+use lib.Ieee.{Float}
 use Rattle.geometry.specs.Double.{f0}
 use Rattle.map.specs.Record.{Map}
 use Rattle.map.specs.MapFile.{isMap}
 use Rattle.changes.specs.Running.{State, opening}
 use Rattle.place.specs.declared.Placement.the-variants.{AtLaneEnd}
 use Rattle.edit.specs.declared.StopRule.the-variants.{StopSign}
-use Rattle.edit.specs.StopLine.{NewStopLine}
+use Rattle.edit.specs.StopLine.{NewStopLine, addStopLine}
 use Rattle.run.specs.Law.{passes}
-use Rattle.quays.specs.Quays.{sameLanes, sameBoundaries, sameNext, sameLines, sameRules, samePoints, SameQuay, SameRoom, Alike}
+use Rattle.quays.specs.Quays.{sameLanes, sameBoundaries, sameNext, sameLines, sameRules, samePoints, SameQuay, SameRoom, SameAnswer, Alike}
 
 pub data Item : Type 0 where
   lanes : Item
@@ -30,9 +31,12 @@ AllBut lines ls m n = SameQuay ls m n × sameNext m n × sameRules m n × samePo
 AllBut rules ls m n = SameQuay ls m n × sameNext m n × sameLines m n × samePoints m n
 AllBut used ls m n = SameQuay ls m n × sameNext m n × sameLines m n × sameRules m n
 
--- a stop sign at the end of lane 3
+-- a stop sign so far before the end of lane 3
+abbrev pub signBeforeEnd : Float → NewStopLine
+signBeforeEnd offset = record { lanes = 3 ∷ []; placement = AtLaneEnd offset; points = []; rule = StopSign }
+
 abbrev pub signAtEnd : NewStopLine
-signAtEnd = record { lanes = 3 ∷ []; placement = AtLaneEnd f0; points = []; rule = StopSign }
+signAtEnd = signBeforeEnd f0
 
 pub record Needed (i : Item) : Type 0 where
   pub first : Map
@@ -41,7 +45,16 @@ pub record Needed (i : Item) : Type 0 where
   pub agreed : AllBut i (signAtEnd .lanes) first second
   pub apart : Alike signAtEnd (opening first) (opening second) → ⊥
 
--- the fold too must be the map's own: on one map, with a fold that passes and one that does not
+-- the specification too: two for the same lane, on one opened map
+pub record SpecificationNeeded : Type 0 where
+  pub map : Map
+  pub opened : isMap map ≡ true
+  pub first : NewStopLine
+  pub second : NewStopLine
+  pub same : first .lanes ≡ second .lanes
+  pub apart : SameAnswer (addStopLine first (opening map)) (addStopLine second (opening map)) → ⊥
+
+-- and the fold must be the map's own: on one map, with a fold that passes and one that does not
 pub record FoldNeeded : Type 0 where
   pub first : State
   pub second : State

@@ -11,15 +11,13 @@ use Rattle.map.specs.Record.{Lane, Map}
 use Rattle.map.specs.Lookup.{laneOf, boundaryOf, lineOf}
 use Rattle.map.specs.Ceilings.{points}
 use Rattle.map.specs.MapFile.{isMap}
-use Rattle.map.specs.Tables.{mapOf}
-use Rattle.store.specs.Layout.{allWords, allCoords}
-use Rattle.changes.specs.Layout.{setWords}
 use Rattle.changes.specs.Running.{State, opening}
 use Rattle.place.specs.Place.{Placed, checkLaneList, placeStopLine}
 use Rattle.edit.specs.declared.Called.{Called}
 use Rattle.edit.specs.Edit.{Outcome}
 use Rattle.edit.specs.Lent.{Lent, stateOf, answered, CallLeft}
 use Rattle.edit.specs.StopLine.{NewStopLine, addStopLine}
+use Rattle.finishing.specs.Finish.{lentChecks}
 use Rattle.run.specs.Run.{Edit, runAll}
 use Rattle.run.specs.Law.{passes}
 
@@ -103,22 +101,15 @@ pub record SameReturn (r u : Called) (x y : Lent) : Type 0 where
   pub returned : r ≡ u
   pub answer : SameAnswer (answered r x) (answered u y)
 
--- lent memory that passes 12 and 13: four slices of their lengths, in a state that passes
-pub record LentPasses (l : Lent) : Type 0 where
-  pub words : length (l .words) ≡ allWords
-  pub coords : length (l .coords) ≡ allCoords
-  pub fold : length (l .fold) ≡ setWords
-  pub set : length (l .set) ≡ setWords
-  pub state : passes (stateOf l) ≡ true
+-- where both memories pass 12 and 13 and their maps agree on these lanes and have the same room, the two calls return alike
+abbrev pub ReturnAlike : List ℕ → Lent → Lent → Called → Called → Lent → Lent → Type 0
+ReturnAlike ls x y r u x′ y′ = lentChecks x ≡ done tt → lentChecks y ≡ done tt → SameQuay ls (stateOf x .map) (stateOf y .map) → SameRoom (stateOf x .map) (stateOf y .map) → SameReturn r u x′ y′
 
-abbrev pub lentMap : Lent → Map
-lentMap l = mapOf (l .words) (l .coords)
-
--- what two calls of `add_stop_line` for the same line leave: each what its contract says, and the same answer where the lent maps agree
+-- what two calls of `add_stop_line` for the same line leave: each what its contract says, and both alike
 pub record BothLeft (a : NewStopLine) (x y : Lent) (r u : Called) (x′ y′ : Lent) : Type 0 where
   pub first : CallLeft (addStopLine a) x r x′
   pub second : CallLeft (addStopLine a) y u y′
-  pub alike : LentPasses x → LentPasses y → SameQuay (a .lanes) (lentMap x) (lentMap y) → SameRoom (lentMap x) (lentMap y) → SameReturn r u x′ y′
+  pub alike : ReturnAlike (a .lanes) x y r u x′ y′
 
 -- ---- the promise, for every stop line that can be asked for
 
@@ -133,4 +124,4 @@ pub record TwoQuays (a : NewStopLine) : Type 0 where
       → SameQuay (a .lanes) (runAll es (opening m) .map) (runAll fs (opening n) .map) → SameRoom (runAll es (opening m) .map) (runAll fs (opening n) .map)
       → Alike a (runAll es (opening m)) (runAll fs (opening n))
   -- so two lent memories, by the contract of `add_stop_line`
-  pub calls : (x y : Lent) (r u : Called) (x′ y′ : Lent) → CallLeft (addStopLine a) x r x′ → CallLeft (addStopLine a) y u y′ → BothLeft a x y r u x′ y′
+  pub calls : (x y : Lent) (r u : Called) (x′ y′ : Lent) → CallLeft (addStopLine a) x r x′ → CallLeft (addStopLine a) y u y′ → ReturnAlike (a .lanes) x y r u x′ y′
