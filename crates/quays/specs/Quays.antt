@@ -1,4 +1,4 @@
--- Two quays, each with a map of its own: where a stop line is answered alike on both. What lies beside the lanes that it is asked for on plays no part.
+-- Two quays, each with a map of its own: where a stop line is answered alike on both. What lies beside its lanes plays no part.
 use Prim.Native.Nat.{ℕ}
 use mathlib.Core.Path.{_≡_}
 use mathlib.Core.Bool.{true}
