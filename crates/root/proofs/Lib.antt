@@ -1,6 +1,6 @@
-mod Turn
 mod Roots
 mod Doubling
+mod Turns
 mod Rounded
 mod Patterns
 mod Cases

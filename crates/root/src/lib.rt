@@ -2,59 +2,79 @@
 ghost use mathlib.Core.Path.{_≡_};
 ghost use Prim.Native.Nat.{_+_, _-_, _*_, _/_, _^_, _≤_, _<_};
 ghost use lib.Ieee.{binary64, ofBits, toBits};
-ghost use Rattle.root.specs.Whole.{IsRoot};
+ghost use Rattle.root.specs.Whole.{IsRoot, Lengthened, Turned, Within};
 ghost use Rattle.root.specs.Root.{rootOf, squareRoot};
 
-// The whole part of the root of w * 4 ^ turns / 2 ^ 64, digit by digit: each turn takes two binary
-// digits of w, from the highest on, and gives one of the root. `rest` is what the digits taken so
-// far are above the square of r.
-fn digits(w: u64, turns: u64) -> u64
-    requires { ⌜ turns ≤ 54 ⌝ }
-    ensures { λ r. ⌜ IsRoot (w * 4 ^ turns / 2 ^ 64) r ⌝ }
-{
-    let mut left = w;
-    let mut r = 0u64;
-    let mut rest = 0u64;
-    let mut i = 0u64;
-    while i < turns {
-        rest = rest * 4 + (left >> 62);
-        left = left << 2;
-        let trial = r * 4 + 1;
-        r = r * 2;
-        if trial <= rest {
-            rest -= trial;
-            r += 1;
-        }
-        i += 1;
-    }
-    r
+// The highest digits of a root, `count` of them, as the number `root`. As many pairs of the radicand's digits are its square and `rest`;
+// those not yet taken are `left`, at the top of 64.
+struct Prefix {
+    root: u64,
+    rest: u64,
+    left: u64,
+    count: u64,
 }
 
-// From the root r of h the root of (h * l + a) * l + b, for an l above r and a and b below l: one
-// division gives as many digits more.
-fn lengthen(h: u64, r: u64, l: u64, a: u64, b: u64) -> u64
-    requires { ⌜ IsRoot h r × (l ≤ r * 2) × (r < l) × (l ≤ 2 ^ 28) × (a < l) × (b < l) ⌝ }
-    ensures { λ s. ⌜ IsRoot ((h * l + a) * l + b) s ⌝ }
+// A root and what the radicand is above its square.
+struct Longer {
+    root: u64,
+    rest: u64,
+}
+
+// From the root r of r * r + rest the root of ((r * r + rest) * l + a) * l + b: one division gives the digits of l more.
+fn lengthen(r: u64, rest: u64, l: u64, a: u64, b: u64) -> Longer
+    requires { ⌜ (0 < r) × (rest ≤ 2 * r) × (l ≤ r * 2) × (r * l < 2 ^ 54) × (a < l) × (b < l) ⌝ }
+    ensures { λ s. ⌜ Lengthened r rest l a b (s .root) (s .rest) ⌝ }
 {
-    let n = (h - r * r) * l + a;
-    let q = n / (r * 2);
-    let u = n % (r * 2);
+    let n = rest * l + a;
+    let d = r * 2;
+    let q = n / d;
+    let v = n % d * l + b;
     let s = r * l + q;
-    if u * l + b < q * q { s - 1 } else { s }
+    // that number is s * s + v - q * q, so that its root is s or one lower
+    let over = if v < q * q { 1 } else { 0 };
+    Longer {
+        root: s - over,
+        rest: v + (s * 2 - 1) * over - q * q,
+    }
 }
 
-// The whole part of the root of m * 2 ^ 54: 14 turns give the first digits, and each of two divisions
-// doubles them. A loop of 54 turns takes three times as long.
+// One turn: as many digits more as make `count`, at most twice as many as there are.
+fn turn(t: Prefix, count: u64) -> Prefix
+    requires { ⌜ Within (t .root) (t .rest) (t .count) × (t .count < count) × (count ≤ 2 * t .count) × (count ≤ 54) ⌝ }
+    ensures { λ s. ⌜ Turned (t .root) (t .rest) (t .left) (t .count) (s .root) (s .rest) (s .left) (s .count) × (s .count ≡ count) ⌝ }
+{
+    let more = count - t.count;
+    let up = 64 - more;
+    let left = t.left;
+    let low = left << more;
+    let next = lengthen(t.root, t.rest, 1 << more, left >> up, low >> up);
+    Prefix {
+        root: next.root,
+        rest: next.rest,
+        left: low << more,
+        count,
+    }
+}
+
+// The whole part of the root of m * 2 ^ 54. Its 54 digits come out of one loop, which begins with the first, always 1, and whose turns
+// make 2, 4, 7, 14, 27 and 54 of them: no number that is divided but the last has more than 32 digits.
 fn whole_root(m: u64) -> u64
     requires { ⌜ (2 ^ 52 ≤ m) × (m < 2 ^ 54) ⌝ }
     ensures { λ r. ⌜ IsRoot (m * 2 ^ 54) r ⌝ }
 {
-    let w = m * 4;
-    let high = w / 268435456;
-    let low = w % 268435456;
-    let r = digits(high << 36, 14);
-    let s = lengthen(high, r, 16384, low / 16384, low % 16384);
-    lengthen(w, s, 268435456, 0, 0) / 4
+    let w = m * 1024;
+    let mut t = Prefix {
+        root: 1,
+        rest: (w >> 62) - 1,
+        left: w << 2,
+        count: 1,
+    };
+    let mut turns = 6u64;
+    while turns > 0 {
+        turns -= 1;
+        t = turn(t, (53 >> turns) + 1);
+    }
+    t.root
 }
 
 // The pattern of the root of m * 2 ^ a / 2 ^ 2148, for an m whose top digit is 2 ^ 52. The root has 54

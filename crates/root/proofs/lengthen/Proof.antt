@@ -1,84 +1,90 @@
 -- `root::lengthen` meets its contract, by `proofs/Doubling.antt`. Assumes nothing.
-use native.Mathlib.Nat.{mul-pos}
 use native.Mathlib.Omega.{arith}
-use Prim.Native.Nat.{ℕ, _+_, _-_, _*_, _/_, _%_}
-use Rattle.root.proofs.Doubling.{Bounds, bounds, kept, lowered}
+use mathlib.Core.Logic.{⊎-elim}
+use Rattle.root.proofs.Doubling.{Corrected, bounds, kept, lowered}
 use borrow.Author.Needs.{needs}
 use Rattle.root.proofs.lengthen.Statement.{statement}
 use Rattle.root.proofs.lengthen.Tie as tie
 use Rattle.root.proofs.lengthen.Reads as reads
 use Rattle.root.proofs.lengthen.Lts as lts
 
-small : (c : tie.Start) →
-    let n = (c .args .h - c .args .r * c .args .r) * c .args .l + c .args .a in
-    Bounds (c .args .r * c .args .r) ((c .args .h - c .args .r * c .args .r) * c .args .l) (c .args .r * c .args .l) (n / (c .args .r * 2)) (n % (c .args .r * 2) * c .args .l) (n / (c .args .r * 2) * (n / (c .args .r * 2)))
-small c = bounds (c .args .h) (c .args .r) (c .args .l) (c .args .a) (c .args .b) (c .pre .0) (omega arith) (c .pre .1) (c .pre .4) (c .pre .5) (c .pre .2) (c .pre .3)
+-- where the arms meet
+met : (c : lts.Joined1 reads.Pre reads.Post) → Corrected (c .before .pre) (c .if1 .over)
+met c = ⊎-elim (λ w. lowered (c .before .pre) (w .0 .taken) (w .1)) (λ w. kept (c .before .pre) (w .0 .left) (w .1)) (c .if1 .came)
 
 mul-n : tie.Need-mul-n
-mul-n c = search needs
-
-sub-n : tie.Need-sub-n
-sub-n c = search needs
-
-mul-n-2 : tie.Need-mul-n-2
-mul-n-2 c = omega (arith, small c)
+mul-n c = omega (arith, bounds (c .pre))
 
 add-n : tie.Need-add-n
-add-n c = omega (arith, small c)
+add-n c = omega (arith, bounds (c .pre))
 
-mul-q : tie.Need-mul-q
-mul-q c = search needs
+mul-d : tie.Need-mul-d
+mul-d c = omega (arith, bounds (c .pre))
 
 div-q : tie.Need-div-q
 div-q c = search needs
 
-mul-u : tie.Need-mul-u
-mul-u c = search needs
+rem-v : tie.Need-rem-v
+rem-v c = search needs
 
-rem-u : tie.Need-rem-u
-rem-u c = search needs
+mul-v : tie.Need-mul-v
+mul-v c = omega (arith, bounds (c .pre))
+
+add-v : tie.Need-add-v
+add-v c = omega (arith, bounds (c .pre))
 
 mul-s : tie.Need-mul-s
-mul-s c = omega (arith, small c)
+mul-s c = search needs
 
 add-s : tie.Need-add-s
-add-s c = omega (arith, small c)
+add-s c = omega (arith, bounds (c .pre))
 
 mul-if1 : tie.Need-mul-if1
-mul-if1 c = omega (arith, small c)
+mul-if1 c = omega (arith, bounds (c .pre))
 
-add-if1 : tie.Need-add-if1
-add-if1 c = omega (arith, small c)
+sub-t12 : tie.Need-sub-t12
+sub-t12 c = omega (arith, met (c .before), bounds (c .before .before .pre))
 
-mul-if1-2 : tie.Need-mul-if1-2
-mul-if1-2 c = omega (arith, small c)
+mul-t13 : tie.Need-mul-t13
+mul-t13 c = omega (arith, met (c .before), bounds (c .before .before .pre))
 
-sub-result : tie.Need-sub-result
-sub-result c = omega (arith, mul-pos {m = c .before .args .r} {n = c .before .args .l} (omega arith) (omega arith))
+sub-t16 : tie.Need-sub-t16
+sub-t16 c = omega (arith, met (c .before), bounds (c .before .before .pre))
+
+mul-t17 : tie.Need-mul-t17
+mul-t17 c = omega (arith, met (c .before), bounds (c .before .before .pre))
+
+add-t18 : tie.Need-add-t18
+add-t18 c = omega (arith, met (c .before), bounds (c .before .before .pre))
+
+mul-t19 : tie.Need-mul-t19
+mul-t19 c = omega (arith, met (c .before), bounds (c .before .before .pre))
+
+sub-t20 : tie.Need-sub-t20
+sub-t20 c = met (c .before) .covered
 
 returns : tie.Need-returns
-returns c = lowered (c .before .args .h) (c .before .args .r) (c .before .args .l) (c .before .args .a) (c .before .args .b) (c .before .pre .0) (omega arith) (c .before .pre .1) (c .before .pre .4) (c .before .pre .5) (c .if1 .taken)
-
-returns-2 : tie.Need-returns-2
-returns-2 c = kept (c .before .args .h) (c .before .args .r) (c .before .args .l) (c .before .args .a) (c .before .args .b) (c .before .pre .0) (omega arith) (c .before .pre .1) (c .before .pre .4) (c .before .pre .5) (c .if1 .left)
+returns c = met (c .before) .longer
 
 pub lengthen-spec : {M : Type 1} → statement M
 lengthen-spec =
     tie.close
     (tie.spec
     mul-n
-    sub-n
-    mul-n-2
     add-n
-    mul-q
+    mul-d
     div-q
-    mul-u
-    rem-u
+    rem-v
+    mul-v
+    add-v
     mul-s
     add-s
     mul-if1
-    add-if1
-    mul-if1-2
-    sub-result
-    returns
-    returns-2)
+    sub-t12
+    mul-t13
+    sub-t16
+    mul-t17
+    add-t18
+    mul-t19
+    sub-t20
+    returns)

@@ -1,47 +1,62 @@
--- `root::whole_root` meets its contract. Assumes nothing.
+-- `root::whole_root` meets its contract, by `proofs/Turns.antt`. The measure is how many turns are to come. Assumes nothing.
 use native.Mathlib.Omega.{arith}
-use mathlib.Core.Path.{_≡_, sym, subst}
-use Prim.Native.Nat.{ℕ, _+_, _*_, _/_, _%_, _^_, _≤_, _<_}
-use Rattle.root.specs.Whole.{IsRoot}
-use Rattle.root.proofs.Turn.{top-14}
-use Rattle.root.proofs.Roots.{cut-root}
-use Rattle.root.proofs.Doubling.{root-14, root-28}
+use Rattle.root.proofs.Turns.{Looped, start, asked, again, root-found}
 use borrow.Author.Needs.{needs}
 use Rattle.root.proofs.whole_root.Statement.{statement}
 use Rattle.root.proofs.whole_root.Tie as tie
+use Rattle.root.proofs.whole_root.Reads as reads
 use Rattle.root.proofs.whole_root.Lts as lts
+use Rattle.root.proofs.turn.Reads as turn-reads
 
-joined : (w : ℕ) → (w / 2 ^ 28 * 16384 + w % 2 ^ 28 / 16384) * 16384 + w % 2 ^ 28 % 16384 ≡ w
-joined w = omega arith
+abbrev Inv-loop : tie.InvT-loop
+Inv-loop m w t₀ turns₀ t turns = Looped w (t .root) (t .rest) (t .left) (t .count) turns
 
-moved-up : (m : ℕ) → (m * 4 * 2 ^ 28 + 0) * 2 ^ 28 + 0 ≡ m * 2 ^ 54 * (4 * 4)
-moved-up m = omega arith
+abbrev μ-loop : tie.MeasureT-loop
+μ-loop m w t₀ turns₀ t turns = turns
 
-mul-w : tie.Need-mul-w
+mul-w : tie.Need-mul-w Inv-loop μ-loop
 mul-w c = search needs
 
-digits-requires : tie.Need-digits-requires
-digits-requires c κs = search needs
+sub-t6 : tie.Need-sub-t6 Inv-loop μ-loop
+sub-t6 c = search needs
 
-lengthen-requires : tie.Need-lengthen-requires
-lengthen-requires c κs =
-    let h = c .before .args .m * 4 / 2 ^ 28 in
-    let i : IsRoot h (c .digits .result) = subst (λ (x : ℕ). IsRoot x (c .digits .result)) (top-14 h (omega arith)) (c .digits .ensures) in
-    let b = root-14 h (c .digits .result) (omega arith) (omega arith) i in
-    (i, omega (arith, b .0), b .1, omega arith, omega arith, omega arith)
+loop-holds : tie.Need-loop-holds Inv-loop μ-loop
+loop-holds c = start (c .args .m) (c .pre .0) (c .pre .1)
 
-lengthen-requires-2 : tie.Need-lengthen-requires-2
-lengthen-requires-2 c κs =
-    let m = c .before .before .args .m in
-    let i : IsRoot (m * 4) (c .lengthen .result) = subst (λ (x : ℕ). IsRoot x (c .lengthen .result)) (joined (m * 4)) (c .lengthen .ensures) in
-    let b = root-28 (m * 4) (c .lengthen .result) (omega arith) (omega arith) i in
-    (i, omega (arith, b .0), b .1, omega arith, omega arith, omega arith)
+sub-turns : tie.Need-sub-turns Inv-loop μ-loop
+sub-turns c = search needs
 
-returns : tie.Need-returns
-returns c =
-    let m = c .before .before .before .args .m in
-    cut-root (m * 2 ^ 54) 4 (c .lengthen2 .result) (omega arith) (subst (λ (x : ℕ). IsRoot x (c .lengthen2 .result)) (moved-up m) (c .lengthen2 .ensures))
+shr-turn : tie.Need-shr-turn Inv-loop μ-loop
+shr-turn c = omega (arith, c .before .loop .inv .few)
+
+add-turn : tie.Need-add-turn Inv-loop μ-loop
+add-turn c = omega (arith, asked (c .before .loop .inv) (omega arith))
+
+turn-requires : tie.Need-turn-requires Inv-loop μ-loop
+turn-requires c κs = asked (c .before .loop .inv) (omega arith)
+
+loop-less : tie.Need-loop-less Inv-loop μ-loop
+loop-less c = omega arith
+
+loop-again : tie.Need-loop-again Inv-loop μ-loop
+loop-again c = again (c .before .before .loop .inv) (omega arith) (c .turn .ensures) (omega arith)
+
+returns : tie.Need-returns Inv-loop μ-loop
+returns c = root-found (c .before .before .args .m) (c .before .loop .inv) (omega arith)
 
 pub whole-root-spec : {M : Type 1} → statement M
 whole-root-spec =
-    tie.close (tie.spec mul-w digits-requires lengthen-requires lengthen-requires-2 returns)
+    tie.close
+    (tie.spec
+    Inv-loop
+    μ-loop
+    mul-w
+    sub-t6
+    loop-holds
+    sub-turns
+    shr-turn
+    add-turn
+    turn-requires
+    loop-less
+    loop-again
+    returns)
