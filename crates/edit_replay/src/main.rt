@@ -1,13 +1,14 @@
 // Replays the oracle's stored calls and the examples of requests: each request is carried out by the proved code on lent memory, and its
 // answer, change set, ends, map and running fold are compared with what stands in the next line: what the Rust gave, or what the example
 // says (it has no fold). A refusal must leave every word as it was. Writes for each file how many calls were carried out and how many of
-// them named ends, how often each refusal came with each detail, and how many answers were met.
+// them named ends, how many roots were asked, how often each refusal came with each detail, and how many answers were met.
 use call_list::Reply;
 use changes::Tally;
 use libc::STDOUT_FILENO;
 use place::MaybeEnds;
 use request_calls::line_over;
 use sample_text::expect_number;
+use sample_text::hex_at;
 use sample_text::name_at;
 
 // The counts: refusal n with first detail d at n * 16 + d; before them, what is not about refusals.
@@ -26,6 +27,8 @@ const LIGHTS: usize = 5;
 const LINKS: usize = 6;
 
 const ENDS: usize = 7;
+
+const ROOTS: usize = 8;
 
 fn get(t: &[u64], i: usize) -> u64 {
     if i < t.len() { t[i] } else { 0 }
@@ -161,10 +164,24 @@ fn told_start(text: &[u8], answer: usize) -> usize {
     if w.value == 0x6F6B { w.next } else { answer }
 }
 
-// What is asked between the edits: the map's file, the running fold's, the tally.
+// Whether the stored root of a pattern is that of both forms, on patterns and on doubles.
+fn root_as(text: &[u8], at: usize, answer: usize) -> bool {
+    let x = hex_at(text, at);
+    let y = hex_at(text, told_start(text, answer));
+    let r = root::square_root(sample_text::double_of(x.value));
+    if root::square_root_bits(x.value) == y.value {
+        if sample_text::bytes::bits_of(r) == y.value {
+            return line_over(text, y.next);
+        }
+    }
+    false
+}
+
+// What is asked between the edits: the map's file, the running fold's, the tally, a root.
 fn look(
     text: &[u8],
     name: u64,
+    at: usize,
     answer: usize,
     words: &[u64],
     coords: &[f64],
@@ -174,7 +191,7 @@ fn look(
     counts: &mut [u64],
 ) {
     let told = told_start(text, answer);
-    // `file` or `dump`, `fold`, `tally`
+    // `file` or `dump`, `fold`, `tally`, `root`
     match name {
         0x66696C65 | 0x64756D70 => {
             let a = request_calls::expect_map(text, told, words, coords, buffer);
@@ -185,6 +202,10 @@ fn look(
             count_answer(counts, line_over(text, a));
         }
         0x74616C6C79 => count_answer(counts, tally_as(text, answer, tally)),
+        0x726F6F74 => {
+            add_one(counts, ROOTS);
+            count_answer(counts, root_as(text, at, answer));
+        }
         _ => {}
     }
 }
@@ -210,35 +231,16 @@ fn line(
 ) -> Tally {
     let request = name_at(text, at);
     let answer = name_at(text, next);
-    let a = answer.next;
     let name = request.value;
+    let i = request.next;
+    let a = answer.next;
     match name {
-        0x6D6170 => open(
-            text,
-            request.next,
-            a,
-            words,
-            coords,
-            fold,
-            tally,
-            buffer,
-            counts,
-        ),
+        0x6D6170 => open(text, i, a, words, coords, fold, tally, buffer, counts),
         0x6C696E65 | 0x6C69676874 | 0x6C696E6B73 => {
             edit(text, at, a, words, coords, fold, tally, set, buffer, counts)
         }
         _ => {
-            look(
-                text,
-                request.value,
-                a,
-                words,
-                coords,
-                fold,
-                tally,
-                buffer,
-                counts,
-            );
+            look(text, name, i, a, words, coords, fold, tally, buffer, counts);
             tally
         }
     }
@@ -355,6 +357,7 @@ fn report(counts: &[u64]) {
     say(b"lights ", get(counts, LIGHTS));
     say(b"links ", get(counts, LINKS));
     say(b"named ends ", get(counts, ENDS));
+    say(b"roots ", get(counts, ROOTS));
     say_refusals(counts);
     say(b"refused and altered ", get(counts, ALTERED));
     say(b"met ", get(counts, MET));
