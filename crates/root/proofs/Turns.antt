@@ -4,9 +4,8 @@ use Prim.Native.Nat.{ℕ, _+_, _-_, _*_, _/_, _%_, _^_, _≤_, _<_}
 use native.Mathlib.Nat.{lt-of-lt-of-le, lt-of-le-of-lt, mul-assoc, mul-comm, mul-left-comm, add-mul, one-mul, mul-le-mul-right, mul-mul-mul-comm, lt-of-mul-lt-mul-right, mul-pos, mod-lt, div-le-self, div-div-eq-div-mul, le-div-iff-mul-le}
 use native.Mathlib.Omega.{arith}
 use lib.Pow.{pow-add, pow-mono, pow-pos, high, low, split, shr-lt, shl-lt, shl-shr, shl-exact}
-use Rattle.root.specs.Whole.{IsRoot, Within, Turned, Lengthened}
+use Rattle.root.specs.Whole.{IsRoot, Lengthened, Lengthens, Turned, Turns, Within}
 use Rattle.root.proofs.Roots.{square-lt, next-square}
-use Rattle.root.proofs.Doubling.{Asks}
 
 -- the highest j digits of 64 taken, the others moved up
 cut : (x j up : ℕ) → x < 2 ^ 64 → up + j ≡ 64 → x * 2 ^ j ≡ x / 2 ^ up * 2 ^ 64 + x * 2 ^ j % 2 ^ 64
@@ -40,10 +39,6 @@ one-up j h = shl-exact {a = 1} 1 j 64 (omega arith) (omega arith) ∙ one-mul (2
 top : (x j : ℕ) → j ≤ 54 → x < 2 ^ 64 → x / 2 ^ (64 - j) < 2 ^ j
 top x j h l = shr-lt j (64 - j) (subst (λ (i : ℕ). x < 2 ^ i) (let e : 64 ≡ j + (64 - j) = omega arith in e) l)
 
--- what `turn` asks
-abbrev pub Turns : ℕ → ℕ → ℕ → ℕ → Type 0
-Turns r rest k count = Within r rest k × (k < count) × (count ≤ 2 * k) × (count ≤ 54)
-
 module _ (r rest left k count : ℕ) (p : Turns r rest k count) (l : left < 2 ^ 64) where
   abbrev j : ℕ
   j = count - k
@@ -58,23 +53,23 @@ module _ (r rest left k count : ℕ) (p : Turns r rest k count) (l : left < 2 ^ 
   b = next / 2 ^ (64 - j)
 
   few : j ≤ 54
-  few = omega (arith, p .3)
+  few = omega (arith, p .fits)
 
   sum : k + j ≡ count
-  sum = omega (arith, p .1)
+  sum = omega (arith, p .more)
 
   next-lt : next < 2 ^ 64
   next-lt = omega arith
 
-  pub asks : Asks r rest (1 * 2 ^ j % 2 ^ 64) a b
+  pub asks : Lengthens r rest (1 * 2 ^ j % 2 ^ 64) a b
   asks =
-      let w = p .0 in
+      let w = p .within in
       let z : 0 < 2 ^ k = pow-pos k in
       let c = w .above in
-      let m : 2 ^ j ≤ 2 ^ k = pow-mono (omega (arith, p .2)) in
-      let o : k + j ≤ 54 = omega (arith, p .1, p .3) in
+      let m : 2 ^ j ≤ 2 ^ k = pow-mono (omega (arith, p .most)) in
+      let o : k + j ≤ 54 = omega (arith, p .more, p .fits) in
       let u : r * 2 ^ j < 2 ^ 54 = lt-of-lt-of-le (shl-lt k j (w .below)) (pow-mono o) in
-      subst (λ (i : ℕ). Asks r rest i a b) (sym (one-up j few)) (omega arith, w .low, omega arith, u, top left j few l, top next j few next-lt)
+      subst (λ (i : ℕ). Lengthens r rest i a b) (sym (one-up j few)) (record { some = omega arith; low = w .low; wide = omega arith; fits = u; first = top left j few l; second = top next j few next-lt })
 
   pub turned : (r′ rest′ : ℕ) → Lengthened r rest (1 * 2 ^ j % 2 ^ 64) a b r′ rest′ → Turned r rest left k r′ rest′ (next * 2 ^ j % 2 ^ 64) count
   turned r′ rest′ h = go (subst (λ (i : ℕ). Lengthened r rest i a b r′ rest′) (one-up j few) h)
@@ -83,7 +78,7 @@ module _ (r rest left k count : ℕ) (p : Turns r rest k count) (l : left < 2 ^ 
       go g =
           let up : 64 - j + j ≡ 64 = omega (arith, few) in
           let s = both (r * r + rest) (2 ^ 64) left a next b (next * 2 ^ j % 2 ^ 64) (2 ^ j) (cut left j (64 - j) l up) (cut next j (64 - j) next-lt up) in
-          let x : 2 ^ k * 2 ^ j ≤ 2 * r * 2 ^ j = mul-le-mul-right (2 ^ j) (p .0 .above) in
+          let x : 2 ^ k * 2 ^ j ≤ 2 * r * 2 ^ j = mul-le-mul-right (2 ^ j) (p .within .above) in
           let y = mul-assoc 2 r (2 ^ j) in
           let z = g .begins in
           let d : 2 ^ count ≡ 2 ^ k * 2 ^ j = ap (λ (i : ℕ). 2 ^ i) (sym sum) ∙ pow-add 2 k j in
@@ -149,8 +144,8 @@ module _ {w r rest left k turns : ℕ} (v : Looped w r rest left k turns) (more 
   count = 53 / 2 ^ (turns - 1) + 1
 
   -- each turn makes at most twice the digits
-  doubles : (k < count) × (count ≤ 2 * k) × (count ≤ 54)
-  doubles =
+  pub asked : Turns r rest k count
+  asked =
       let t = turns - 1 in
       let y = 53 / 2 ^ t in
       let p : 2 ^ turns ≡ 2 ^ t * 2 = ap (λ (i : ℕ). 2 ^ i) (let e : turns ≡ turns - 1 + 1 = omega arith in e) ∙ pow-add 2 t 1 in
@@ -159,14 +154,11 @@ module _ {w r rest left k turns : ℕ} (v : Looped w r rest left k turns) (more 
       let o : 2 ^ t ≤ 2 ^ 5 = pow-mono few in
       let z : 1 ≤ y = le-div-iff-mul-le (pow-pos t) .1 (omega arith) in
       let u : y ≤ 53 = div-le-self 53 (2 ^ t) in
-      (omega (arith, e, z), omega (arith, e), omega arith)
-
-  pub asked : Turns r rest k count
-  asked = let d = doubles in (v .found .within, d .0, d .1, d .2)
+      record { within = v .found .within; more = omega (arith, e, z); most = omega (arith, e); fits = omega arith }
 
   pub again : {r′ rest′ left′ k′ : ℕ} → Turned r rest left k r′ rest′ left′ k′ × (k′ ≡ count) → left′ < 2 ^ 64 → Looped w r′ rest′ left′ k′ (turns - 1)
   again {r′} {rest′} {left′} {k′} t l = record {
-    found = further w r rest left k r′ rest′ left′ k′ (v .found) (t .0) (omega (arith, doubles .0, t .1)) l;
+    found = further w r rest left k r′ rest′ left′ k′ (v .found) (t .0) (omega (arith, asked .more, t .1)) l;
     few = omega (arith, v .few);
     digits = t .1;
   }

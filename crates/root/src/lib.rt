@@ -2,7 +2,7 @@
 ghost use mathlib.Core.Path.{_≡_};
 ghost use Prim.Native.Nat.{_+_, _-_, _*_, _/_, _^_, _≤_, _<_};
 ghost use lib.Ieee.{binary64, ofBits, toBits};
-ghost use Rattle.root.specs.Whole.{IsRoot, Lengthened, Turned, Within};
+ghost use Rattle.root.specs.Whole.{IsRoot, Lengthened, Lengthens, Turned, Turns};
 ghost use Rattle.root.specs.Root.{rootOf, squareRoot};
 
 // The highest digits of a root, `count` of them, as the number `root`. As many pairs of the radicand's digits are its square and `rest`;
@@ -22,7 +22,7 @@ struct Longer {
 
 // From the root r of r * r + rest the root of ((r * r + rest) * l + a) * l + b: one division gives the digits of l more.
 fn lengthen(r: u64, rest: u64, l: u64, a: u64, b: u64) -> Longer
-    requires { ⌜ (0 < r) × (rest ≤ 2 * r) × (l ≤ r * 2) × (r * l < 2 ^ 54) × (a < l) × (b < l) ⌝ }
+    requires { ⌜ Lengthens r rest l a b ⌝ }
     ensures { λ s. ⌜ Lengthened r rest l a b (s .root) (s .rest) ⌝ }
 {
     let n = rest * l + a;
@@ -40,7 +40,7 @@ fn lengthen(r: u64, rest: u64, l: u64, a: u64, b: u64) -> Longer
 
 // One turn: as many digits more as make `count`, at most twice as many as there are.
 fn turn(t: Prefix, count: u64) -> Prefix
-    requires { ⌜ Within (t .root) (t .rest) (t .count) × (t .count < count) × (count ≤ 2 * t .count) × (count ≤ 54) ⌝ }
+    requires { ⌜ Turns (t .root) (t .rest) (t .count) count ⌝ }
     ensures { λ s. ⌜ Turned (t .root) (t .rest) (t .left) (t .count) (s .root) (s .rest) (s .left) (s .count) × (s .count ≡ count) ⌝ }
 {
     let more = count - t.count;
