@@ -13,7 +13,12 @@ fail() {
 code=$(sed -e 's,//.*,,' -e 's,#\[no_mangle\],,' -e '/^ghost use/d' -e '/^ *requires {/d' -e '/^ *ensures {/d' crates/root/src/lib.rt)
 loops=$(echo "$code" | grep -cwE 'while|for|loop') || true
 [ "$loops" = 1 ] || fail "$loops loop statements"
-if echo "$code" | grep -nE '\<const\>|\<static\>|\<use\>|::[a-z_]+::|\['; then fail "a constant, an array or another crate's item"; fi
+if echo "$code" | grep -nE '\<const\>|\<static\>|\['; then fail "a constant or an array"; fi
+# a path is of a number's type; no crate but this one is named or listed
+grep -qx 'root:' crates.txt || fail "crates.txt lists crates that it needs"
+if echo "$code" | grep -nwE 'use|mod'; then fail "an item of another file or crate"; fi
+paths=$(echo "$code" | grep -oE '[a-z0-9_]+::[a-z0-9_:]+' | grep -vE '^(u64::leading_zeros|f64::to_bits|f64::from_bits)$') || true
+[ -z "$paths" ] || fail "an item of another crate: $paths"
 echo "loop statements: 1; constants, arrays, other crates: none"
 echo "numbers: $(echo "$code" | grep -oE '\<[0-9][0-9A-Fa-fx_]*' | sed 's/_//g' | sort -u | tr '\n' ' ')"
 
