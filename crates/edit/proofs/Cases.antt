@@ -107,16 +107,10 @@ other-lines : sameList (setOf (addTrafficSignal (vehicleLight (3 ∷ [])) crosse
 unfolding open-stop-line open-light neg
 other-lines = refl
 
--- a light for group 6, which has line 4, with a new line 7: the group keeps line 4
+-- a group that is no light and controls crosswalks: the crosswalks are looked at first
 abbrev lightFor : ℕ → StopLineChoice → NewTrafficSignal
 lightFor g c = record { lanes = 3 ∷ []; choice = c; points = []; housing = none; height = none; kind = Vehicle; bulbs = none; group = some g }
 
-group-keeps : sameList (setAndRules (addTrafficSignal (lightFor 6 (New (AtLaneEnd f1))) (withMore 7 (ruleOn 6 (light (9 ∷ []) (some 4)) ∷ []))))
-    ((2 ∷ 5 ∷ 7 ∷ 6 ∷ 8 ∷ 1 ∷ 8 ∷ 6 ∷ 0 ∷ 1 ∷ 3 ∷ 0 ∷ []) ++ rule .write (ruleOn 5 (sign 1 none (some 4))) ++ rule .write (ruleOn 6 (light (9 ∷ 8 ∷ []) (some 4)))) ≡ true
-unfolding open-stop-line open-light neg
-group-keeps = refl
-
--- a group that is no light and controls crosswalks: the crosswalks are looked at first
 crosswalk-group : sameList (setOf (addTrafficSignal (lightFor 6 Automatic) (withMore 7 (record { num = 6; body = sign 2 none none; lanes = 3 ∷ []; controlled = 9 ∷ [] } ∷ [])))) (7 ∷ 1 ∷ []) ≡ true
 unfolding open-stop-line open-light neg
 crosswalk-group = refl

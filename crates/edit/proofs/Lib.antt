@@ -1,2 +1,3 @@
 pub mod Crossings
 mod Cases
+pub mod GroupLine

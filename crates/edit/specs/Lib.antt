@@ -4,3 +4,4 @@ pub mod Light
 pub mod Links
 pub mod Lent
 pub mod Request
+pub mod GroupLine

@@ -77,9 +77,14 @@ unfoldable pub differs : Option ℕ → ℕ → Bool
 differs none s = false
 differs (some g) s = not (eqb g s)
 
+-- a new line is turned down where the group has one
+abbrev pub checkNew : Option ℕ → Answer (Unit {0})
+checkNew none = done tt
+checkNew (some g) = refused 7 (4 ∷ [])
+
 unfoldable pub checkChoice : Map → Option ℕ → StopLineChoice → Answer (Unit {0})
 checkChoice m group Automatic = done tt
-checkChoice m group (New how) = done tt
+checkChoice m group (New how) = checkNew group
 checkChoice m group NoLine = done tt
 checkChoice m group (Existing s) = do
   present (lineOf m s) 2 (5 ∷ s ∷ [])
@@ -112,9 +117,14 @@ unfoldable pub autoPlan : Map → List ℕ → Option ℕ → Answer Plan
 autoPlan m lanes none = drawPlan m lanes (AtLaneEnd f0) []
 autoPlan m lanes (some s) = done (use-line s)
 
+-- the choice of no line is the group's, where it has one
+abbrev pub ownPlan : Option ℕ → Plan
+ownPlan none = use-none
+ownPlan (some s) = use-line s
+
 unfoldable pub planFor : Map → List ℕ → Option ℕ → StopLineChoice → List Float → Answer Plan
 planFor m lanes group (Existing s) cs = done (use-line s)
-planFor m lanes group NoLine cs = done use-none
+planFor m lanes group NoLine cs = done (ownPlan group)
 planFor m lanes group (New how) cs = drawPlan m lanes how cs
 planFor m lanes group Automatic cs = autoPlan m lanes (orElse group (existingStopLine m (getD lanes 0 0)))
 

@@ -34,11 +34,11 @@ use Rattle.placing.specs.Answers.{checked, maybeNumber}
 use Rattle.placing.proofs.CheckLaws.{no-entries, some-entries}
 use Rattle.edit.specs.declared.StopLineChoice.{StopLineChoice}
 use Rattle.edit.specs.declared.StopLineChoice.the-variants as ch
-use Rattle.edit.specs.Light.{lightLine, groupLine, differs, checkChoice, stopsAt, existingStopLine, drawPlan, autoPlan, planFor}
+use Rattle.edit.specs.Light.{lightLine, groupLine, differs, checkNew, checkChoice, stopsAt, existingStopLine, drawPlan, autoPlan, planFor}
 use Rattle.lighting.specs.declared.GroupLine.{GroupLine}
 use Rattle.lighting.specs.declared.LinePlan.{LinePlan}
 use Rattle.lighting.specs.declared.LinePlan.the-variants.{Use, NoLine, Draw}
-use Rattle.lighting.specs.Group.{groupAnswer, GroupRefused, GroupRead, ExistingChecked, ChoiceChecked, chosenPlan, AutoChosen, PlanChosen}
+use Rattle.lighting.specs.Group.{groupAnswer, GroupRefused, GroupRead, ExistingChecked, ChoiceChecked, chosenPlan, AutoChosen, OwnChosen, PlanChosen}
 use Rattle.lighting.specs.RuleLines.{headLine, LineFound}
 use Rattle.lighting.proofs.RuleLaws.{head-is}
 
@@ -142,6 +142,24 @@ module _ (ws : List ℕ) (group : MaybeNumber) (s : ℕ) (r : Found) (e : r ≡ 
       unfolding differs
       existing-same n = record { answer = λ cs. rw (line-found ws cs s i (sym e ∙ at), q, eq-eqb g s n) }
 
+-- ---- a new line
+
+pub new-free : (group : MaybeNumber) → group ≡ Nothing → checked Fine ≡ checkNew (maybeNumber group)
+new-free group q = rw q
+
+pub new-taken : (group : MaybeNumber) (g : ℕ) → group ≡ At g → checked (Refused (WrongGroup 4)) ≡ checkNew (maybeNumber group)
+new-taken group g q = rw q
+
+-- ---- no line
+
+pub own-none : (group : MaybeNumber) → group ≡ Nothing → OwnChosen group NoLine
+unfolding chosenPlan
+own-none group q = record { answer = λ m lanes points. rw q }
+
+pub own-some : (group : MaybeNumber) (g : ℕ) → group ≡ At g → OwnChosen group (Use g)
+unfolding chosenPlan
+own-some group g q = record { answer = λ m lanes points. rw q }
+
 -- ---- the choice
 
 module _ (ws : List ℕ) (group : MaybeNumber) (choice : StopLineChoice) where
@@ -149,9 +167,9 @@ module _ (ws : List ℕ) (group : MaybeNumber) (choice : StopLineChoice) where
   unfolding checkChoice
   choice-automatic q = record { answer = λ cs. rw q }
 
-  pub choice-new : (how : Placement) → choice ≡ ch.New how → ChoiceChecked ws group choice Fine
+  pub choice-new : (how : Placement) (r : Checked) → choice ≡ ch.New how → checked r ≡ checkNew (maybeNumber group) → ChoiceChecked ws group choice r
   unfolding checkChoice
-  choice-new how q = record { answer = λ cs. rw q }
+  choice-new how r q h = record { answer = λ cs. rw q h }
 
   pub choice-none : choice ≡ ch.NoLine → ChoiceChecked ws group choice Fine
   unfolding checkChoice
@@ -182,9 +200,9 @@ module _ (ws lanes : List ℕ) (group : MaybeNumber) (choice : StopLineChoice) w
   unfolding chosenPlan planFor
   plan-existing s q = record { answer = λ cs points. rw q }
 
-  pub plan-none : choice ≡ ch.NoLine → PlanChosen ws lanes group choice NoLine
-  unfolding chosenPlan planFor
-  plan-none q = record { answer = λ cs points. rw q }
+  pub plan-none : (r : LinePlan) → choice ≡ ch.NoLine → OwnChosen group r → PlanChosen ws lanes group choice r
+  unfolding planFor
+  plan-none r q h = record { answer = λ cs points. rw q (h .answer (mapOf ws cs) lanes points) }
 
   pub plan-new : (how : Placement) → choice ≡ ch.New how → PlanChosen ws lanes group choice (Draw how)
   unfolding chosenPlan planFor

@@ -14,7 +14,7 @@ use Rattle.placing.specs.declared.Checked.{Checked}
 use Rattle.placing.specs.declared.MaybeNumber.{MaybeNumber}
 use Rattle.placing.specs.Answers.{checked, maybeNumber}
 use Rattle.edit.specs.declared.StopLineChoice.{StopLineChoice}
-use Rattle.edit.specs.Light.{groupLine, differs, checkChoice, existingStopLine, Plan, use-line, use-none, drawPlan, autoPlan, planFor}
+use Rattle.edit.specs.Light.{groupLine, differs, checkChoice, existingStopLine, Plan, use-line, use-none, drawPlan, autoPlan, ownPlan, planFor}
 use Rattle.lighting.specs.declared.GroupLine.{GroupLine}
 use Rattle.lighting.specs.declared.LinePlan.{LinePlan}
 use Rattle.lighting.specs.declared.LinePlan.the-variants.{Use, NoLine, Draw}
@@ -43,6 +43,9 @@ chosenPlan m lanes (Draw how) cs = drawPlan m lanes how cs
 
 pub record AutoChosen (ws : List ℕ) (lane : ℕ) (group : MaybeNumber) (r : LinePlan) : Type 0 where
   pub answer : (cs points : List Float) (lanes : List ℕ) → chosenPlan (mapOf ws cs) lanes r points ≡ autoPlan (mapOf ws cs) lanes (orElse (maybeNumber group) (existingStopLine (mapOf ws cs) lane))
+
+pub record OwnChosen (group : MaybeNumber) (r : LinePlan) : Type 0 where
+  pub answer : (m : Map) (lanes : List ℕ) (points : List Float) → chosenPlan m lanes r points ≡ done (ownPlan (maybeNumber group))
 
 pub record PlanChosen (ws lanes : List ℕ) (group : MaybeNumber) (choice : StopLineChoice) (r : LinePlan) : Type 0 where
   pub answer : (cs points : List Float) → chosenPlan (mapOf ws cs) lanes r points ≡ planFor (mapOf ws cs) lanes (maybeNumber group) choice points

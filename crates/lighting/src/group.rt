@@ -11,11 +11,13 @@ use placing::Checked;
 use placing::MaybeNumber;
 use refusal::Refusal;
 ghost use mathlib.Core.Path.{_≡_};
+ghost use Rattle.placing.specs.Answers.{checked, maybeNumber};
+ghost use Rattle.edit.specs.Light.{checkNew};
 ghost use Prim.Native.Nat.{_<_};
 ghost use lib.ListN.{length};
 ghost use Rattle.store.specs.Layout.{SizedWords};
 ghost use Rattle.place.specs.Readable.{ReadableWords};
-ghost use Rattle.lighting.specs.Group.{GroupRefused, GroupRead, ExistingChecked, ChoiceChecked, AutoChosen, PlanChosen};
+ghost use Rattle.lighting.specs.Group.{GroupRefused, GroupRead, ExistingChecked, ChoiceChecked, AutoChosen, OwnChosen, PlanChosen};
 
 fn refused_group(r: Refusal) -> GroupLine
     ensures { λ g. ⌜ GroupRefused r g ⌝ }
@@ -70,13 +72,23 @@ fn check_existing(words: &[u64], group: MaybeNumber, s: u64) -> Checked
     Checked::Fine
 }
 
+// A new line is turned down where the group has one.
+fn check_new(group: MaybeNumber) -> Checked
+    ensures { λ r. ⌜ checked r ≡ checkNew (maybeNumber group) ⌝ }
+{
+    let MaybeNumber::At(_) = group else {
+        return Checked::Fine;
+    };
+    Checked::Refused(Refusal::WrongGroup(4))
+}
+
 pub fn check_choice(words: &[u64], group: MaybeNumber, choice: StopLineChoice) -> Checked
     requires { ⌜ SizedWords (now words) ⌝ }
     ensures { λ r. ⌜ ChoiceChecked (now (words .entry)) group choice r ⌝ }
 {
     match choice {
         StopLineChoice::Automatic => Checked::Fine,
-        StopLineChoice::New(_) => Checked::Fine,
+        StopLineChoice::New(_) => check_new(group),
         StopLineChoice::NoLine => Checked::Fine,
         StopLineChoice::Existing(s) => check_existing(words, group, s),
     }
@@ -97,6 +109,16 @@ fn automatic(words: &[u64], lane: u64, group: MaybeNumber) -> LinePlan
     LinePlan::Draw(Placement::AtLaneEnd(0.0))
 }
 
+// The choice of no line: the group's, where it has one.
+fn own_plan(group: MaybeNumber) -> LinePlan
+    ensures { λ r. ⌜ OwnChosen group r ⌝ }
+{
+    let MaybeNumber::At(g) = group else {
+        return LinePlan::NoLine;
+    };
+    LinePlan::Use(g)
+}
+
 // Where the line comes from.
 pub fn plan_for(
     words: &[u64],
@@ -109,7 +131,7 @@ pub fn plan_for(
 {
     match choice {
         StopLineChoice::Existing(s) => LinePlan::Use(s),
-        StopLineChoice::NoLine => LinePlan::NoLine,
+        StopLineChoice::NoLine => own_plan(group),
         StopLineChoice::New(how) => LinePlan::Draw(how),
         StopLineChoice::Automatic => automatic(words, lanes[0], group),
     }

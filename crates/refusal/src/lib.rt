@@ -15,7 +15,7 @@ pub enum Refusal {
     BadShape(u64),
     // 1 no lane geometry, 2 empty, 3 degenerate centreline, 4 missing boundary, 5 no section, 6 empty stop line
     NoPlace(u64),
-    // 1 controls crosswalks, 2 not a light, 3 uses another line
+    // 1 controls crosswalks, 2 not a light, 3 uses another line, 4 has a line and a new one is asked for
     WrongGroup(u64),
     // 1 to 8, in the order of the rule's tests
     WrongLink(u64),

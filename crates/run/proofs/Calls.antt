@@ -25,10 +25,11 @@ use Rattle.edit.specs.Edit.{Draft, Outcome, call}
 use Rattle.edit.specs.Light.{lightEdit, addTrafficSignal}
 use Rattle.edit.specs.Links.{linksEdit, setRegulatoryLinks}
 use Rattle.edit.specs.StopLine.{stopLineEdit, addStopLine}
-use Rattle.run.specs.Law.{alters, wellHanded, liftedBy, clearsLine, sameForm, differ, names, leaves, handed, passes, Accepted, CallLaw}
+use Rattle.run.specs.Law.{alters, wellHanded, liftedBy, joinsGroup, clearsLine, sameForm, differ, names, leaves, handed, passes, Accepted, CallLaw}
 use Rattle.run.specs.LineEnds.{toldBy, endsAnswered}
 use Rattle.run.specs.Run.{Edit, line, signal, links, runOne, stateAfter, setsAfter}
 use Rattle.run.proofs.LineEnds.{drafts, same-told, line-ends, light-ends, links-ends}
+use Rattle.run.proofs.GroupLine.{light-joins}
 use Rattle.run.proofs.Counts.{named-count, named-lists, Named}
 use Rattle.run.proofs.Fold.{StepLaw, finished, Finished, set-named}
 use Rattle.run.proofs.LightLine.{light-clears}
@@ -74,6 +75,11 @@ edit-ends : (e : Edit) (m : Map) (d : Draft) → edited e m ≡ done d → endsA
 edit-ends (line a) m d q = line-ends a m d q
 edit-ends (signal a) m d q = light-ends a m d q
 edit-ends (links a) m d q = links-ends a m d q
+
+edit-joins : (e : Edit) (m : Map) (d : Draft) → isMap m ≡ true → edited e m ≡ done d → joinsGroup e m (d .map)
+edit-joins (line a) m d ok q = tt
+edit-joins (signal a) m d ok q = λ g e. light-joins a m d ok q g e
+edit-joins (links a) m d ok q = tt
 
 -- ---- the draft of an accepted call
 
@@ -173,6 +179,9 @@ module _ (e : Edit) (s : State) (o : Outcome) (x : Ended e s o) where
   call-ends : endsAnswered e (s .map) (toldBy o)
   call-ends = subst (endsAnswered e (s .map)) (same-told (sym (x .end .ends)) (rw (x .end .state))) (edit-ends e (s .map) (x .draft) (x .drawn))
 
+  call-joins : joinsGroup e (s .map) (o .state .map)
+  call-joins = rw (x .end .state) (edit-joins e (s .map) (x .draft) (x .map) (x .drawn))
+
   is-accepted : Accepted e s o
   is-accepted = record {
     set = call-set;
@@ -185,6 +194,7 @@ module _ (e : Edit) (s : State) (o : Outcome) (x : Ended e s o) where
     count = named-count (s .map) (o .state .map) _ (o .changes) (x .map) map-left set-left;
     rise = call-rise .rise;
     lights = call-lights;
+    joins = call-joins;
     ends = call-ends;
     valid = call-passes;
   }

@@ -9,9 +9,10 @@ mod PlaceWarned
 mod LineStep
 mod LinksStep
 mod LightStep
-mod LightLine
+pub mod LightLine
 mod Refusals
 mod Passing
 mod LineEnds
+mod GroupLine
 pub mod Calls
 pub mod Runs

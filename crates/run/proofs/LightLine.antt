@@ -53,7 +53,7 @@ lane-line n (r ∷ rs) = rw (lane-line n rs, own-is (r .body)) (go (member n (r 
     go true rest = next-else (stopsAt (r .body)) rest
     go false rest = refl
 
-rule-line : (n : ℕ) (rs : List Rule) (r : Rule) → find (λ x. x .num) n rs ≡ some r → lineOfRule n rs ≡ stopsAt (r .body)
+pub rule-line : (n : ℕ) (rs : List Rule) (r : Rule) → find (λ x. x .num) n rs ≡ some r → lineOfRule n rs ≡ stopsAt (r .body)
 unfolding lineOfRule find
 rule-line n [] r e = let z : _≡_ {A = ℕ} 0 1 = cc in absurd (omega arith)
 rule-line n (x ∷ rs) r e = go (eqb (x .num) n) e (rule-line n rs r)
@@ -62,7 +62,7 @@ rule-line n (x ∷ rs) r e = go (eqb (x .num) n) e (rule-line n rs r)
     go true e k = let q : x ≡ r = cc in rw q (own-is (r .body))
     go false e k = k e
 
-group-line : (m : Map) (k g : Option ℕ) → groupLine m k ≡ done g → groupsLine k (m .rules) ≡ g
+pub group-line : (m : Map) (k g : Option ℕ) → groupLine m k ≡ done g → groupsLine k (m .rules) ≡ g
 unfolding groupLine groupsLine ruleOf
 group-line m none g e = done-is e
 group-line m (some k) g e =
@@ -89,12 +89,13 @@ unfolding drawPlan lineDrawn
 drawn-line m lanes how cs pl e = let q = went (placeStopLine m lanes how cs) _ pl e in rw (← done-is (q .rest))
 
 plan-line : (m : Map) (lanes : List ℕ) (g : Option ℕ) (c : StopLineChoice) (cs : List Float) (pl : Plan) → planFor m lanes g c cs ≡ done pl
-    → lineDrawn m pl .line ≡ chosenLine c (max 1 (m .next)) (orElse g (existingStopLine m (getD lanes 0 0)))
+    → lineDrawn m pl .line ≡ chosenLine c (max 1 (m .next)) g (existingStopLine m (getD lanes 0 0))
 unfolding planFor chosenLine
 plan-line m lanes g (Existing s) cs pl e = unfold lineDrawn in rw (← done-is e)
-plan-line m lanes g NoLine cs pl e = unfold lineDrawn in rw (← done-is e)
+plan-line m lanes none NoLine cs pl e = unfold lineDrawn in rw (← done-is e)
+plan-line m lanes (some s) NoLine cs pl e = unfold lineDrawn in rw (← done-is e)
 plan-line m lanes g (New how) cs pl e = drawn-line m lanes how cs pl e
-plan-line m lanes g Automatic cs pl e = go (orElse g (existingStopLine m (getD lanes 0 0))) e
+plan-line m lanes g Automatic cs pl e = rw (next-else g (existingStopLine m (getD lanes 0 0))) (go (orElse g (existingStopLine m (getD lanes 0 0))) e)
   where
     go : (o : Option ℕ) → autoPlan m lanes o ≡ done pl → lineDrawn m pl .line ≡ some (foundOr (max 1 (m .next)) o)
     go none e = unfold autoPlan in drawn-line m lanes (AtLaneEnd f0) [] pl e
@@ -104,7 +105,7 @@ pub light-line : (a : NewTrafficSignal) (m : Map) (p : Planned) → lightPlan a 
 unfolding lightsLine
 light-line a m p e =
     let q = plans a m p e in
-    rw (group-line m (a .group) (q .own) (q .own-is), first-line m (a .lanes) (q .unit) (q .lanes), next-else (q .own) (existingStopLine m (getD (a .lanes) 0 0)))
+    rw (group-line m (a .group) (q .own) (q .own-is), first-line m (a .lanes) (q .unit) (q .lanes))
     (plan-line m (a .lanes) (q .own) (a .choice) (a .points) (p .plan) (q .plan-is))
 
 -- ---- what is lifted from it

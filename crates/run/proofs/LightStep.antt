@@ -701,6 +701,8 @@ pub record Plans (a : NewTrafficSignal) (m : Map) (p : Planned) : Type 0 where
   pub height : badHeight (a .height) ≡ false
   pub own : Option ℕ
   pub own-is : groupLine m (a .group) ≡ done own
+  pub fine : Unit {0}
+  pub fine-is : checkChoice m own (a .choice) ≡ done fine
   pub plan-is : planFor m (a .lanes) own (a .choice) (a .points) ≡ done (p .plan)
   pub anchor : Polyline
   pub anchor-is : anchorFor m (a .lanes) (p .plan) ≡ done anchor
@@ -724,6 +726,8 @@ plans a m p e =
       height = p₂ .test;
       own = p₄ .value;
       own-is = p₄ .first;
+      fine = p₅ .value;
+      fine-is = p₅ .first;
       plan-is = subst (λ (x : Plan). planFor m (a .lanes) (p₄ .value) (a .choice) (a .points) ≡ done x) r (p₆ .first);
       anchor = p₇ .value;
       anchor-is = subst (λ (x : Plan). anchorFor m (a .lanes) x ≡ done (p₇ .value)) r (p₇ .first);
@@ -755,7 +759,8 @@ draw-warned m lanes how cs p h e =
 plan-warned : (m : Map) (lanes : List ℕ) (g : Option ℕ) (c : StopLineChoice) (cs : List Float) (p : Placed) → getD lanes 0 0 < 2 ^ 64 → planFor m lanes g c cs ≡ done (draw p) → Warned 1 (p .warnings)
 unfolding planFor
 plan-warned m lanes g (Existing s) cs p h e = let z : _≡_ {A = ℕ} 0 1 = cc in absurd (omega arith)
-plan-warned m lanes g NoLine cs p h e = let z : _≡_ {A = ℕ} 0 1 = cc in absurd (omega arith)
+plan-warned m lanes none NoLine cs p h e = let z : _≡_ {A = ℕ} 0 1 = cc in absurd (omega arith)
+plan-warned m lanes (some s) NoLine cs p h e = let z : _≡_ {A = ℕ} 0 1 = cc in absurd (omega arith)
 plan-warned m lanes g (New how) cs p h e = draw-warned m lanes how cs p h e
 plan-warned m lanes g Automatic cs p h e = go (orElse g (existingStopLine m (getD lanes 0 0))) e
   where

@@ -66,7 +66,7 @@ unfolding grouped
 group-lines d a n none = refl
 group-lines d a n (some r) = refl
 
-light-lines : (a : NewTrafficSignal) (m : Map) (p : Planned) → lightDraft a m p .map .stopLines ≡ lineDrawn m (p .plan) .map .stopLines
+pub light-lines : (a : NewTrafficSignal) (m : Map) (p : Planned) → lightDraft a m p .map .stopLines ≡ lineDrawn m (p .plan) .map .stopLines
 unfolding lightDraft signalDrawn
 light-lines a m p = lifts-lines (a .lanes) _ (lineDrawn m (p .plan) .line) ∙ group-lines _ a _ (groupRule m (a .group))
 
@@ -93,7 +93,8 @@ auto-ends m lanes (some s) pl e = subst (λ (x : Plan). NoEnds m (planned m x)) 
 plan-ends : (m : Map) (lanes : List ℕ) (g : Option ℕ) (c : StopLineChoice) (cs : List Float) (pl : Plan) → planFor m lanes g c cs ≡ done pl → choiceEnds m lanes g c cs (planned m pl)
 unfolding planFor planEnds lineDrawn
 plan-ends m lanes g (Existing s) cs pl e = subst (λ (x : Plan). NoEnds m (planned m x)) (done-is e) (record { ends = refl; stored = refl })
-plan-ends m lanes g NoLine cs pl e = subst (λ (x : Plan). NoEnds m (planned m x)) (done-is e) (record { ends = refl; stored = refl })
+plan-ends m lanes none NoLine cs pl e = subst (λ (x : Plan). NoEnds m (planned m x)) (done-is e) (record { ends = refl; stored = refl })
+plan-ends m lanes (some s) NoLine cs pl e = subst (λ (x : Plan). NoEnds m (planned m x)) (done-is e) (record { ends = refl; stored = refl })
 plan-ends m lanes g (New how) cs pl e = draws m lanes how cs pl e
 plan-ends m lanes g Automatic cs pl e = auto-ends m lanes (orElse g (existingStopLine m (getD lanes 0 0))) pl e
 

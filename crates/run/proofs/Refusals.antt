@@ -140,7 +140,8 @@ low-group m (some g) = low-bind (present (ruleOf m g) 2 (8 ∷ g ∷ [])) _ (low
 low-choice : (m : Map) (g : Option ℕ) (c : StopLineChoice) → low (checkChoice m g c) ≡ true
 unfolding checkChoice
 low-choice m g Automatic = refl
-low-choice m g (New how) = refl
+low-choice m none (New how) = refl
+low-choice m (some s) (New how) = refl
 low-choice m g NoLine = refl
 low-choice m g (Existing s) = low-then (present (lineOf m s) 2 (5 ∷ s ∷ [])) _ (low-present (lineOf m s) 2 (5 ∷ s ∷ []) refl) (low-when (differs g s) 7 (3 ∷ []) refl)
 

@@ -101,14 +101,15 @@ abbrev pub foundOr : ℕ → Option ℕ → ℕ
 foundOr n none = n
 foundOr n (some s) = s
 
-unfoldable pub chosenLine : StopLineChoice → ℕ → Option ℕ → Option ℕ
-chosenLine (Existing s) drawn found = some s
-chosenLine (New how) drawn found = some drawn
-chosenLine NoLine drawn found = none
-chosenLine Automatic drawn found = some (foundOr drawn found)
+-- by the choice: the number that a new line gets, the group's own line and the first lane's
+unfoldable pub chosenLine : StopLineChoice → ℕ → Option ℕ → Option ℕ → Option ℕ
+chosenLine (Existing s) drawn own found = some s
+chosenLine (New how) drawn own found = some drawn
+chosenLine NoLine drawn own found = own
+chosenLine Automatic drawn own found = some (foundOr drawn (orNext own found))
 
 unfoldable pub lightsLine : NewTrafficSignal → Map → Option ℕ
-lightsLine a m = chosenLine (a .choice) (max 1 (m .next)) (orNext (groupsLine (a .group) (m .rules)) (firstLanesLine (a .lanes) (m .rules)))
+lightsLine a m = chosenLine (a .choice) (max 1 (m .next)) (groupsLine (a .group) (m .rules)) (firstLanesLine (a .lanes) (m .rules))
 
 -- ---- what a light leaves on its line
 
@@ -138,6 +139,20 @@ unfoldable pub liftedBy : Edit → Map → Map → Bool
 liftedBy (line a) m n = true
 liftedBy (signal a) m n = noStop (lightsLine a m) (a .lanes) n
 liftedBy (links a) m n = true
+
+-- a light on the map m whose group has the line g, once it has left the map n
+pub record Joined (a : NewTrafficSignal) (m n : Map) (g : ℕ) : Type 0 where
+  -- it has drawn no line
+  pub lines : n .stopLines ≡ m .stopLines
+  -- the group's line is g still
+  pub own : groupsLine (a .group) (n .rules) ≡ some g
+  -- and no stop rule of its lanes is left there
+  pub cleared : noStop (some g) (a .lanes) n ≡ true
+
+abbrev pub joinsGroup : Edit → Map → Map → Type 0
+joinsGroup (line a) m n = Unit {0}
+joinsGroup (signal a) m n = (g : ℕ) → groupsLine (a .group) (m .rules) ≡ some g → Joined a m n g
+joinsGroup (links a) m n = Unit {0}
 
 -- an accepted light has left no stop rule of its lanes on its line
 unfoldable pub clearsLine : Call → Bool
@@ -202,6 +217,8 @@ pub record Accepted (e : Edit) (s : State) (o : Outcome) : Type 0 where
   pub rise : rising (λ n. n) (s .map .next) (o .state .map .next) (handed (o .changes)) ≡ true
   -- a light has left no stop rule of its lanes on its line
   pub lights : liftedBy e (s .map) (o .state .map) ≡ true
+  -- that is its group's line where the group has one; it draws none then
+  pub joins : joinsGroup e (s .map) (o .state .map)
   -- it names the ends of a line that it has drawn across lanes, and of no other
   pub ends : endsAnswered e (s .map) (toldBy o)
   -- the state that it leaves passes, so that the next call takes it
