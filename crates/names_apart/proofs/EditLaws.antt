@@ -1,7 +1,7 @@
 -- The names apart, each edit's answer is what it was.
 use Prim.Native.Nat.{ℕ, _^_}
 use mathlib.Core.Path.{_≡_, refl, ap, _∙_}
-use mathlib.Core.Bool.{not, _&&_}
+use mathlib.Core.Bool.{false, not, _&&_}
 use mathlib.Core.Option.{Option, none, some}
 use mathlib.Core.List.{List, [], _∷_}
 use lib.Dec.{leb}
@@ -29,8 +29,12 @@ use Rattle.edit.specs.declared.StopLineChoice.{StopLineChoice}
 use Rattle.edit.specs.declared.StopLineChoice.the-variants.{Automatic, Existing, New, NoLine}
 use Rattle.edit.specs.Edit.{Draft, finish, call}
 use Rattle.edit.specs.StopLine.{NewStopLine, ruleAt, lineDraft, stopLineEdit, addStopLine}
-use Rattle.edit.specs.Light.{NewTrafficSignal, Plan, use-line, use-none, draw, Planned, groupLine, checkChoice, existingStopLine, drawPlan, autoPlan, planFor, anchorFor, synthesizeSignalGeometry, housingFor, lineDrawn, planPoints, badHeight, checkHousing, lightPlan, lightDraft, lightEdit, addTrafficSignal}
+use Rattle.edit.specs.Light.{NewTrafficSignal, Plan, use-line, use-none, draw, Planned, groupLine, existingStopLine, drawPlan, autoPlan, anchorFor, synthesizeSignalGeometry, housingFor, lineDrawn, planPoints, badHeight, checkHousing, lightDraft, addTrafficSignal}
 use Rattle.edit.specs.Links.{RegulatoryLinks, relinked, linksEdit, setRegulatoryLinks}
+use Rattle.group_line.specs.Before as between
+use Rattle.group_line.specs.Before.{checkChoice, planFor, lightPlan, lightEdit}
+use Rattle.group_line.specs.Law.{answeredAnew}
+use Rattle.group_line.proofs.Laws.{group-line-law}
 use Rattle.names_apart.specs.Edits as old
 use Rattle.names_apart.specs.Apart.{withResult, bare, bareOutcome, NamesApart}
 use Rattle.names_apart.proofs.PlacingLaws.{through, past, behind, section-points-kept, place-kept}
@@ -79,7 +83,7 @@ stop-line-kept : (a : NewStopLine) (s : State) → withResult bareOutcome (addSt
 unfolding addStopLine old.addStopLine
 stop-line-kept a s = call-kept (stopLineEdit a) (old.stopLineEdit a) (line-edit-kept a) s
 
--- ---- a light
+-- ---- a light, as it was before it joined its group's line
 
 abbrev bare-plan : Plan → old.Plan
 bare-plan (use-line s) = old.use-line s
@@ -155,9 +159,12 @@ light-edit-kept a m =
     through bare-planned bare-draft (lightPlan a m) _ (λ p. done (old.lightDraft a m p)) (λ p. ap done (light-draft-kept a m (p .plan) (p .housing)))
     ∙ ap (λ (x : Answer old.Planned). x >>= λ p. done (old.lightDraft a m p)) (light-plan-kept a m)
 
-light-kept : (a : NewTrafficSignal) (s : State) → withResult bareOutcome (addTrafficSignal a s) ≡ old.addTrafficSignal a s
-unfolding addTrafficSignal old.addTrafficSignal
-light-kept a s = call-kept (lightEdit a) (old.lightEdit a) (light-edit-kept a) s
+between-kept : (a : NewTrafficSignal) (s : State) → withResult bareOutcome (between.addTrafficSignal a s) ≡ old.addTrafficSignal a s
+unfolding between.addTrafficSignal old.addTrafficSignal
+between-kept a s = call-kept (lightEdit a) (old.lightEdit a) (light-edit-kept a) s
+
+light-kept : (a : NewTrafficSignal) (s : State) → answeredAnew a (s .map) ≡ false → withResult bareOutcome (addTrafficSignal a s) ≡ old.addTrafficSignal a s
+light-kept a s h = ap (withResult bareOutcome) (group-line-law a s .others h) ∙ between-kept a s
 
 -- ---- links
 

@@ -1,6 +1,7 @@
 -- The names of the ends apart, each answer is the one from before: points, warnings, records, numbers, change sets, refusals and their order.
 use Prim.Native.Nat.{ℕ}
 use mathlib.Core.Path.{_≡_}
+use mathlib.Core.Bool.{false}
 use mathlib.Core.List.{List}
 use lib.Ieee.{Float}
 use Rattle.refusal.specs.Answer.{Answer, refused, done}
@@ -12,6 +13,7 @@ use Rattle.edit.specs.Edit.{Outcome}
 use Rattle.edit.specs.StopLine.{NewStopLine, addStopLine}
 use Rattle.edit.specs.Light.{NewTrafficSignal, addTrafficSignal}
 use Rattle.edit.specs.Links.{RegulatoryLinks, setRegulatoryLinks}
+use Rattle.group_line.specs.Law.{answeredAnew}
 use Rattle.names_apart.specs.Placing as before
 use Rattle.names_apart.specs.Edits as earlier
 
@@ -31,5 +33,6 @@ pub record NamesApart : Type 0 where
   pub section : (m : Map) (reference : ℕ) (station : Float) (lanes : List ℕ) → withResult (λ x. x .points) (crossSection m reference station lanes) ≡ before.crossSection m reference station lanes
   pub placement : (m : Map) (lanes : List ℕ) (how : Placement) (cs : List Float) → withResult bare (placeStopLine m lanes how cs) ≡ before.placeStopLine m lanes how cs
   pub line : (a : NewStopLine) (s : State) → withResult bareOutcome (addStopLine a s) ≡ earlier.addStopLine a s
-  pub light : (a : NewTrafficSignal) (s : State) → withResult bareOutcome (addTrafficSignal a s) ≡ earlier.addTrafficSignal a s
+  -- a light whose answer the group's line has not changed since
+  pub light : (a : NewTrafficSignal) (s : State) → answeredAnew a (s .map) ≡ false → withResult bareOutcome (addTrafficSignal a s) ≡ earlier.addTrafficSignal a s
   pub links : (a : RegulatoryLinks) (s : State) → withResult bareOutcome (setRegulatoryLinks a s) ≡ earlier.setRegulatoryLinks a s

@@ -29,7 +29,8 @@ use Rattle.names_apart.specs.Placing.{Placed, crossSection, placeStopLin
 use Rattle.edit.specs.declared.StopLineChoice.{StopLineChoice}
 use Rattle.edit.specs.declared.StopLineChoice.the-variants.{Automatic, Existing, New, NoLine}
 use Rattle.edit.specs.StopLine.{NewStopLine, ruleAt}
-use Rattle.edit.specs.Light.{NewTrafficSignal, Drawing, groupLine, checkChoice, existingStopLine, synthesizeSignalGeometry, signalDrawn, grouped, liftAll, positions, badHeight, checkHousing, groupRule, bulbsOf, newSignal}
+use Rattle.group_line.specs.Before.{checkChoice}
+use Rattle.edit.specs.Light.{NewTrafficSignal, Drawing, groupLine, existingStopLine, synthesizeSignalGeometry, signalDrawn, grouped, liftAll, positions, badHeight, checkHousing, groupRule, bulbsOf, newSignal}
 use Rattle.edit.specs.Links.{RegulatoryLinks, relinked, sameLinks, linkChanges}
 
 -- ---- the call
