@@ -529,25 +529,45 @@ fn group_line(map: &FileMap, group: u64) -> Step<Option<u64>> {
     }
 }
 
-fn traffic_light(map: &FileMap, light: &NewLight) -> Step<Draft> {
-    let lanes = &light.lanes;
-    check_lanes(map, lanes)?;
+/// The checks that come before the choice of a line is looked at, and the
+/// group's line.
+fn before_choice(map: &FileMap, light: &NewLight) -> Step<Option<u64>> {
+    check_lanes(map, &light.lanes)?;
     if let Some(h) = light.height {
         need(h.is_finite() && h > 0.0, 4, &[1])?;
     }
     if let Some(housing) = &light.housing {
         check_given(housing)?;
     }
-    let kept = match light.group {
-        Some(group) => group_line(map, group)?,
-        None => None,
+    match light.group {
+        Some(group) => group_line(map, group),
+        None => Ok(None),
+    }
+}
+
+/// The group's line, where a light asks for a new one or for none. The Rust
+/// draws a second line then, or lifts nothing; request 4 changed that.
+pub fn joined_line(map: &FileMap, light: &NewLight) -> Option<u64> {
+    let (Choice::New(_) | Choice::None) = light.choice else {
+        return None;
     };
-    if let Choice::Existing(s) = light.choice {
+    before_choice(map, light).ok().flatten()
+}
+
+fn traffic_light(map: &FileMap, light: &NewLight) -> Step<Draft> {
+    let lanes = &light.lanes;
+    let kept = before_choice(map, light)?;
+    let choice = match (&light.choice, kept) {
+        (Choice::New(_), Some(_)) => return refuse(7, &[4]),
+        (Choice::None, Some(own)) => &Choice::Existing(own),
+        (choice, _) => choice,
+    };
+    if let Choice::Existing(s) = *choice {
         need(map.stop_line(s).is_some(), 2, &[STOP_LINE.into(), s])?;
         need(kept.is_none_or(|own| own == s), 7, &[3])?;
     }
     let mut set = FileSet::default();
-    let plan = match &light.choice {
+    let plan = match choice {
         Choice::Existing(s) => Plan::Use(*s),
         Choice::None => Plan::NoLine,
         Choice::New(p) => Plan::Draw(place(map, lanes, p, &mut set.warnings)?),

@@ -14,6 +14,7 @@ pub enum Reason {
     Full,
     Spent,
     AbsentLine,
+    GroupLine,
     KeptRule,
 }
 
@@ -24,6 +25,7 @@ impl Reason {
             Reason::Full => "10 full",
             Reason::Spent => "11 numbers spent",
             Reason::AbsentLine => "2 absent stop line of a rule (the Rust panics)",
+            Reason::GroupLine => "a new line or none for a group with a line",
             Reason::KeptRule => "a rule that the Rust keeps and 01 lifts",
         }
     }
@@ -33,7 +35,8 @@ impl Reason {
 pub enum Verdict {
     /// The Rust's answer, and 01's is the same.
     Answer(Outcome),
-    /// Not to be compared. The map stays as it is; the refusal is 01's.
+    /// Not to be compared. The map stays as it is; the refusal is 01's, with
+    /// number 0 where it carries the call out.
     LeftOut(Reason, Refusal),
     /// The Rust and 01 as read here differ: a finding.
     Disagree(Box<(Outcome, Judged)>),
@@ -73,8 +76,46 @@ impl Run {
         write_set(&self.fold_file())
     }
 
+    /// What naming the group's line asks, where a light asks for no line and
+    /// its group has one: the Rust's answer to it is 01's to the call.
+    pub fn named(&self, call: &Call) -> Option<Call> {
+        let Call::Light(light) = call else {
+            return None;
+        };
+        let own = model::joined_line(&self.file, light)?;
+        (light.choice == Choice::None).then(|| {
+            Call::Light(NewLight {
+                choice: Choice::Existing(own),
+                ..light.clone()
+            })
+        })
+    }
+
+    /// A light whose group has a line, and that asks for a new one or for
+    /// none. Not compared; but where it asks for none, the Rust must agree on
+    /// the call that names the line, and 01 answers both alike.
+    fn joins(&self, call: &Call, judged: Judged) -> Verdict {
+        if let Some(named) = self.named(call) {
+            let beside = self.clone().call(&named);
+            if matches!(beside, Verdict::Disagree(_)) {
+                return beside;
+            }
+            assert_eq!(judged, model::judge(&self.file, &named));
+        }
+        let refusal = match judged {
+            Judged::Refused(r) | Judged::Last(r) | Judged::AbsentLine(r) => r,
+            Judged::Done { .. } => Refusal::new(0, &[]),
+        };
+        Verdict::LeftOut(Reason::GroupLine, refusal)
+    }
+
     pub fn call(&mut self, call: &Call) -> Verdict {
         let judged = model::judge(&self.file, call);
+        if let Call::Light(light) = call
+            && model::joined_line(&self.file, light).is_some()
+        {
+            return self.joins(call, judged);
+        }
         let mut edited = self.map.clone();
         let rust = edits::answer(&mut edited, call);
         match (&rust, &judged) {

@@ -137,58 +137,115 @@ fn full_after_the_old_rule_goes() {
     assert_eq!(s.file.rules.len(), 128);
 }
 
-/// A new line beside a group's: the group keeps its own, and the stop rules
-/// on the new line's number are lifted.
-#[test]
-fn a_group_keeps_its_line() {
-    let mut map = crossing(2.0);
-    map.stop_lines = vec![Line {
-        number: 4,
-        points: vec![[5.0, 2.0, 0.0], [5.0, -2.0, 0.0]],
-    }];
-    let light = What::Light {
-        signals: vec![],
+/// Lane 3 with line 4, a stop sign on it, and light 6 with the given line.
+fn lit(line: Option<u64>) -> FileMap {
+    let rule = |number, what, lanes| Rule {
+        number,
+        what,
+        lanes,
+        crosswalks: vec![],
+    };
+    let sign = What::Sign {
+        sign_type: 1,
+        sign: None,
         line: Some(4),
     };
-    let marking = What::Marking { line: 8 };
-    map.rules = vec![
-        Rule {
-            number: 5,
-            what: light,
-            lanes: vec![],
-            crosswalks: vec![],
-        },
-        Rule {
-            number: 6,
-            what: marking,
-            lanes: vec![3, 77, 3],
-            crosswalks: vec![],
-        },
-    ];
+    let signals = vec![];
+    FileMap {
+        next: 8,
+        stop_lines: vec![Line {
+            number: 4,
+            points: vec![[5.0, 2.0, 0.0], [5.0, -2.0, 0.0]],
+        }],
+        rules: vec![
+            rule(5, sign, vec![3]),
+            rule(6, What::Light { signals, line }, vec![]),
+        ],
+        ..crossing(2.0)
+    }
+}
+
+/// A light for the lanes that joins rule 6.
+fn joining(lanes: &[u64], choice: Choice) -> Call {
+    let Call::Light(light) = plain_light(lanes) else {
+        unreachable!("a light")
+    };
+    Call::Light(NewLight {
+        choice,
+        group: Some(6),
+        ..light
+    })
+}
+
+/// 7 with detail 4 stands before all of placing, and behind the checks of
+/// lanes and group, which are still compared.
+#[test]
+fn a_new_line_for_a_group_with_a_line() {
+    let nowhere = Placement::Given(vec![]);
+    for place in [Placement::LaneEnd(0.0), Placement::LaneEnd(-1.0), nowhere] {
+        for line in [4, 50] {
+            let mut s = Run::open(lit(Some(line)));
+            let verdict = s.call(&joining(&[3], Choice::New(place.clone())));
+            let want = Verdict::LeftOut(Reason::GroupLine, Refusal::new(7, &[4]));
+            assert_eq!(verdict, want);
+            assert_eq!(s.file, lit(Some(line)));
+        }
+        let mut s = Run::open(lit(Some(4)));
+        let unknown = Outcome::Refused(Refusal::new(2, &[1, 9]));
+        let verdict = s.call(&joining(&[9], Choice::New(place)));
+        assert_eq!(verdict, Verdict::Answer(unknown));
+    }
+    let mut s = Run::open(lit(None));
+    let end = Choice::New(Placement::LaneEnd(0.0));
+    assert_eq!(done(&mut s, &joining(&[3], end)).0, 9);
+}
+
+/// No line for a group with a line is naming it: left out, with 01's answer.
+#[test]
+fn no_line_for_a_group_with_a_line() {
+    let call = joining(&[3], Choice::None);
+    let left_out = |r| Verdict::LeftOut(Reason::GroupLine, r);
+    let mut s = Run::open(lit(Some(4)));
+    assert_eq!(s.call(&call), left_out(Refusal::new(0, &[])));
+    assert_eq!(s.file, lit(Some(4)));
+    let named = s.named(&call).unwrap();
+    assert_eq!(named, joining(&[3], Choice::Existing(4)));
+    let (number, set) = done(&mut s, &named);
+    assert_eq!(number, 8);
+    assert_eq!(
+        write_set(&set),
+        bytes("01 06 08 01 08 06 01 08 05 02 03 00 04 08 05")
+    );
+    let mut s = Run::open(lit(Some(50)));
+    assert_eq!(s.call(&call), left_out(Refusal::new(2, &[5, 50])));
+    // A group without a line: the Rust's answer, and nothing is lifted.
+    let mut s = Run::open(lit(None));
+    assert_eq!(s.named(&call), None);
+    assert_eq!(done(&mut s, &call).1.deleted, []);
+}
+
+/// The stop rules on the number of a line just drawn are lifted.
+#[test]
+fn a_rule_that_names_the_line_to_be_drawn() {
+    let mut map = crossing(2.0);
+    map.rules = vec![Rule {
+        number: 6,
+        what: What::Marking { line: 8 },
+        lanes: vec![3, 77, 3],
+        crosswalks: vec![],
+    }];
     map.next = 8;
     let mut s = Run::open(map);
-    let call = Call::Light(NewLight {
-        lanes: vec![3],
-        choice: Choice::New(Placement::LaneEnd(0.0)),
-        housing: None,
-        height: None,
-        pedestrian: true,
-        bulbs: None,
-        group: Some(5),
-    });
-    let (number, set) = done(&mut s, &call);
+    let Call::Light(light) = plain_light(&[3]) else {
+        unreachable!("a light")
+    };
+    let choice = Choice::New(Placement::LaneEnd(0.0));
+    let (number, set) = done(&mut s, &Call::Light(NewLight { choice, ..light }));
     assert_eq!(number, 9);
     assert_eq!(
         write_set(&set),
-        bytes("02 05 08 06 09 02 08 05 08 06 00 02 03 00 04 08 06")
+        bytes("03 05 08 06 09 08 0a 01 08 06 00 02 03 00 04 08 06")
     );
-    let group = s.file.rule(5).unwrap();
-    let kept = What::Light {
-        signals: vec![9],
-        line: Some(4),
-    };
-    assert_eq!(group.what, kept);
-    assert_eq!(group.lanes, [3]);
     assert_eq!(s.file.rule(6).unwrap().lanes, [77]);
 }
 

@@ -1,6 +1,7 @@
 //! edits [CALLS] [SEED]: random calls in runs, the proved edits beside the Rust's. After each call: all words of the answer (what,
 //! number, details, the names of the ends), change set bytes, map bytes, fold bytes, tally; after a refusal, every byte of the lent
-//! memory. Where 01 answers and the Rust does not (9, 10, 11, an absent line), the comparison is with the model of 01. Numbers that
+//! memory. Where 01 answers and the Rust does not (9, 10, 11, an absent line, a new line for a group with a line), the comparison is
+//! with the model of 01; no line for such a group is to be answered as the Rust answers the group's line by its number. Numbers that
 //! are no case of their enum, and memory that is no opened map's, are tried beside them.
 
 use bench::edits::{EndCounts, Lent, NO_CALL, damage, draw, only, wanted};
@@ -33,6 +34,8 @@ fn main() {
     let (mut asked, mut done, mut runs, mut none, mut differ) = (0, 0, 0, 0, 0);
     // 9 and 10 of lights with more than four lamps
     let mut many = [0; 2];
+    // no line beside a group's: the Rust is asked for the group's by its number
+    let mut joined = 0;
     let mut ends = EndCounts::default();
     while asked < calls {
         let size = Size::mixed(&mut rng);
@@ -57,8 +60,11 @@ fn main() {
             let fold = run.fold_bytes();
             let got = lent.call(&args);
             asked += 1;
-            let verdict = run.call(&call);
-            let want = wanted(&call, &verdict);
+            let named = run.named(&call);
+            joined += usize::from(named.is_some());
+            let like = named.as_ref().unwrap_or(&call);
+            let verdict = run.call(like);
+            let want = wanted(like, &verdict);
             ends.note(&verdict, &run);
             let left = match verdict {
                 Verdict::Answer(Outcome::Done { set, .. }) => {
@@ -98,6 +104,7 @@ fn main() {
     }
     println!("{asked} calls in {runs} runs, {done} carried out, {differ} differences");
     println!("ends named {}, with a tie {}", ends.named, ends.ties);
+    println!("no line for a group with a line, as if it were named: {joined}");
     println!(
         "more than four lamps: 9: {}, 10: {}; {none} that were no call",
         many[0], many[1]

@@ -176,6 +176,8 @@ fn rust_run(rng: &mut Rng, run: &mut Run, ends: &mut EndCounts) -> Wanted {
         }
         let row = calls.row(rng, &args);
         calls.rows.extend(row.words);
+        // no line for a group with a line is to be answered as if it were named
+        let call = run.named(&call).unwrap_or(call);
         let verdict = run.call(&call);
         answers.extend(wanted(&call, &verdict));
         ends.note(&verdict, run);
