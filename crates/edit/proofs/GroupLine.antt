@@ -12,7 +12,6 @@ use Rattle.place.specs.Place.{checkLaneList}
 use Rattle.place.proofs.Answers.{next, past}
 use Rattle.edit.specs.declared.StopLineChoice.{StopLineChoice}
 use Rattle.edit.specs.declared.StopLineChoice.the-variants.{Existing, New, NoLine}
-use Rattle.edit.specs.Edit.{Draft}
 use Rattle.edit.specs.Light.{NewTrafficSignal, groupLine, differs, checkChoice, planFor, anchorFor, badHeight, checkHousing, Planned, lightPlan, Drawing, grouped, groupRule, heightOf, bulbsOf, newSignal, lightDraft, lightEdit}
 use Rattle.edit.specs.GroupLine.{beforeChoice, choosing}
 

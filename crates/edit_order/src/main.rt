@@ -580,7 +580,7 @@ fn main() {
         os::fail(&path[..length]);
         return;
     }
-    let mut text = [0u8; 131072];
+    let mut text = [0u8; 262144];
     let n = io::read_full(file, &mut text);
     libc::close(file);
     play(&text[..n]);

@@ -1,6 +1,6 @@
 -- The law of a group's line: what is new is as 01 and the request have it, and every other call is answered as before.
 use Prim.Native.Nat.{ℕ}
-use mathlib.Core.Path.{_≡_, refl, sym, ap, _∙_}
+use mathlib.Core.Path.{_≡_, refl, sym, _∙_}
 use mathlib.Core.Bool.{Bool, true, false, not, _&&_}
 use mathlib.Core.Option.{Option, none, some}
 use mathlib.Core.List.{List, [], _∷_}
@@ -18,11 +18,11 @@ use Rattle.place.specs.Place.{checkLaneList}
 use Rattle.edit.specs.declared.StopLineChoice.{StopLineChoice}
 use Rattle.edit.specs.declared.StopLineChoice.the-variants.{Automatic, Existing, New, NoLine}
 use Rattle.edit.specs.Edit.{Draft, Outcome, call}
-use Rattle.edit.specs.Light.{NewTrafficSignal, groupLine, checkChoice, planFor, badHeight, checkHousing, lightPlan, lightDraft, lightEdit, addTrafficSignal}
+use Rattle.edit.specs.Light.{NewTrafficSignal, groupLine, checkChoice, planFor, badHeight, checkHousing, lightPlan, lightEdit, addTrafficSignal}
 use Rattle.edit.specs.GroupLine.{beforeChoice, choosing}
 use Rattle.edit.proofs.GroupLine.{new-turned-down, none-as-named}
 use Rattle.run.specs.Run.{runOne, signal}
-use Rattle.run.specs.Law.{groupsLine, Joined, passes, Accepted}
+use Rattle.run.specs.Law.{groupsLine, passes, Accepted}
 use Rattle.run.proofs.LightLine.{group-line}
 use Rattle.run.proofs.Calls.{call-law}
 use Rattle.group_line.specs.Before as before

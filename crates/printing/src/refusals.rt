@@ -66,7 +66,8 @@ fn group(d: u64) {
     match d {
         1 => say(b"controls crosswalks"),
         2 => say(b"not a light"),
-        _ => say(b"uses another line"),
+        3 => say(b"uses another line"),
+        _ => say(b"has a line, and a new one is asked for"),
     }
 }
 

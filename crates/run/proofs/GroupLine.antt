@@ -21,7 +21,7 @@ use Rattle.place.proofs.Answers.{never, done-is, went, next, past, there}
 use Rattle.edit.specs.declared.StopLineChoice.{StopLineChoice}
 use Rattle.edit.specs.declared.StopLineChoice.the-variants.{Existing, New, NoLine, Automatic}
 use Rattle.edit.specs.Edit.{Draft}
-use Rattle.edit.specs.Light.{NewTrafficSignal, stopsAt, lightLine, groupLine, differs, checkChoice, Plan, use-line, autoPlan, planFor, Planned, lineDrawn, Drawing, signalDrawn, newSignal, extended, joinedLanes, grouped, groupRule, isStopAt, lift, lightPlan, lightDraft, lightEdit}
+use Rattle.edit.specs.Light.{NewTrafficSignal, stopsAt, lightLine, groupLine, differs, checkChoice, Plan, use-line, autoPlan, planFor, lineDrawn, Drawing, signalDrawn, newSignal, extended, joinedLanes, grouped, groupRule, isStopAt, lift, lightPlan, lightDraft, lightEdit}
 use Rattle.run.specs.Law.{groupsLine, lightsLine, noStop, Joined}
 use Rattle.run.proofs.Lifts.{liftBy, lift-same}
 use Rattle.run.proofs.Rules.{put, put-all, put-same}

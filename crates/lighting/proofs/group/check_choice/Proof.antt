@@ -3,48 +3,34 @@ use Rattle.lighting.proofs.GroupLaws.{choice-automatic, choice-new, cho
 use borrow.Author.Needs.{needs}
 use Rattle.lighting.proofs.group.check_choice.Statement.{statement}
 use Rattle.lighting.proofs.group.check_choice.Tie as tie
-use Rattle.lighting.proofs.group.check_choice.Reads as reads
-use Rattle.lighting.proofs.group.check_choice.Lts as lts
-use Rattle.lighting.proofs.group.check_existing.Reads as check-existing-reads
-use Rattle.lighting.proofs.group.check_new.Reads as check-new-reads
 
--- src/group.rt:92:38
 enum-told : tie.Need-enum-told
 enum-told c = search needs
 
--- src/group.rt:93:35
 enum-told-2 : tie.Need-enum-told-2
 enum-told-2 c = search needs
 
--- src/group.rt:93:35
 check-new-requires : tie.Need-check-new-requires
 check-new-requires c κs = search needs
 
--- src/group.rt:94:35
 enum-told-3 : tie.Need-enum-told-3
 enum-told-3 c = search needs
 
--- src/group.rt:95:34
 enum-known-choice : tie.Need-enum-known-choice
 enum-known-choice c = search needs
 
--- src/group.rt:95:40
 check-existing-requires : tie.Need-check-existing-requires
 check-existing-requires c κs = search needs
 
--- src/group.rt:87:1
 returns : tie.Need-returns
 returns c = choice-automatic _ (c .before .before .before .args .group) _ (c .enum-told .given .1)
 
--- src/group.rt:87:1
 returns-2 : tie.Need-returns-2
 returns-2 c = choice-new _ (c .before .before .before .before .args .group) _ _ _ (c .before .enum-told2 .given .1) (c .check-new .ensures)
 
--- src/group.rt:87:1
 returns-3 : tie.Need-returns-3
 returns-3 c = choice-none _ (c .before .before .before .args .group) _ (c .enum-told3 .given .1)
 
--- src/group.rt:87:1
 returns-4 : tie.Need-returns-4
 returns-4 c = choice-existing _ (c .before .before .before .before .before .args .group) _ _ _ (c .before .before .choice .given .1) (c .check-existing .ensures)
 

@@ -3,21 +3,16 @@ use Rattle.lighting.proofs.GroupLaws.{new-free, new-taken}
 use borrow.Author.Needs.{needs}
 use Rattle.lighting.proofs.group.check_new.Statement.{statement}
 use Rattle.lighting.proofs.group.check_new.Tie as tie
-use Rattle.lighting.proofs.group.check_new.Reads as reads
-use Rattle.lighting.proofs.group.check_new.Lts as lts
 
 enum-told : tie.Need-enum-told
 enum-told c = search needs
 
--- src/group.rt:82:9
 enum-told-2 : tie.Need-enum-told-2
 enum-told-2 c = search needs
 
--- src/group.rt:82:9
 returns : tie.Need-returns
 returns c = search (needs, new-free, new-taken)
 
--- src/group.rt:78:1
 returns-2 : tie.Need-returns-2
 returns-2 c = search (needs, new-free, new-taken)
 

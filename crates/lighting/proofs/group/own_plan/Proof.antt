@@ -3,22 +3,16 @@ use Rattle.lighting.proofs.GroupLaws.{own-none, own-some}
 use borrow.Author.Needs.{needs}
 use Rattle.lighting.proofs.group.own_plan.Statement.{statement}
 use Rattle.lighting.proofs.group.own_plan.Tie as tie
-use Rattle.lighting.proofs.group.own_plan.Reads as reads
-use Rattle.lighting.proofs.group.own_plan.Lts as lts
 
--- src/group.rt:118:25
 enum-known-group : tie.Need-enum-known-group
 enum-known-group c = search needs
 
--- src/group.rt:119:9
 enum-told : tie.Need-enum-told
 enum-told c = search needs
 
--- src/group.rt:119:9
 returns : tie.Need-returns
 returns c = search (needs, own-none, own-some)
 
--- src/group.rt:115:1
 returns-2 : tie.Need-returns-2
 returns-2 c = search (needs, own-none, own-some)
 

@@ -3,52 +3,37 @@ use Rattle.lighting.proofs.GroupLaws.{plan-existing, plan-none, plan-ne
 use borrow.Author.Needs.{needs}
 use Rattle.lighting.proofs.group.plan_for.Statement.{statement}
 use Rattle.lighting.proofs.group.plan_for.Tie as tie
-use Rattle.lighting.proofs.group.plan_for.Reads as reads
-use Rattle.lighting.proofs.group.plan_for.Lts as lts
-use Rattle.lighting.proofs.group.automatic.Reads as automatic-reads
-use Rattle.lighting.proofs.group.own_plan.Reads as own-plan-reads
 
--- src/group.rt:135:34
 enum-known-choice : tie.Need-enum-known-choice
 enum-known-choice c = search needs
 
--- src/group.rt:136:35
 enum-told : tie.Need-enum-told
 enum-told c = search needs
 
--- src/group.rt:136:35
 own-plan-requires : tie.Need-own-plan-requires
 own-plan-requires c κs = search needs
 
--- src/group.rt:137:29
 enum-known-choice-2 : tie.Need-enum-known-choice-2
 enum-known-choice-2 c = search needs
 
--- src/group.rt:138:55
 enum-told-2 : tie.Need-enum-told-2
 enum-told-2 c = search needs
 
--- src/group.rt:138:55
 shared-slice-read-automatic : tie.Need-shared-slice-read-automatic
 shared-slice-read-automatic c = search needs
 
--- src/group.rt:138:38
 automatic-requires : tie.Need-automatic-requires
 automatic-requires c κs = search needs
 
--- src/group.rt:125:1
 returns : tie.Need-returns
 returns c = plan-existing _ _ (c .before .before .before .before .before .args .group) _ _ (c .before .choice .given .1)
 
--- src/group.rt:125:1
 returns-2 : tie.Need-returns-2
 returns-2 c = plan-none _ _ (c .before .before .before .before .before .args .group) _ _ (c .before .enum-told .given .1) (c .own-plan .ensures)
 
--- src/group.rt:125:1
 returns-3 : tie.Need-returns-3
 returns-3 c = plan-new _ _ (c .before .before .before .before .before .args .group) _ _ (c .before .choice2 .given .1)
 
--- src/group.rt:125:1
 returns-4 : tie.Need-returns-4
 returns-4 c = plan-automatic _ (c .before .before .before .before .before .before .args .lanes .now) (c .before .before .before .before .before .before .args .group) _ _ (c .before .before .enum-told2 .given .1) (c .automatic .ensures)
 
