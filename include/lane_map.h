@@ -47,7 +47,7 @@ extern "C" {
    Refusals: 1 no lanes; 2 unknown record (its kind, its number); 3 listed twice (1 lanes, 2 crosswalks, 3 lines);
    4 bad measure (1 height, 2 offset, 3 station); 5 bad shape (1 not finite, 2 too short); 6 no place (1 no lane geometry, 2 empty,
    3 degenerate centreline, 4 missing boundary, 5 no section, 6 empty stop line); 7 wrong group (1 controls crosswalks, 2 no light,
-   3 uses another line); 8 wrong link (1 to 8, in the order of the rule's tests); 9 off the map; 10 full; 11 numbers spent;
+   3 uses another line than the existing one that is named, 4 has a line and a new one is asked for); 8 wrong link (1 to 8, in the order of the rule's tests); 9 off the map; 10 full; 11 numbers spent;
    12 no map; 13 no running fold or set; 14 short buffer.
 
    Kinds of records: 1 lane, 5 stop line, 6 signal, 7 crosswalk, 8 rule. */
@@ -73,7 +73,8 @@ uint64_t lane_map_add_stop_line(
             7 to 14 colour and arrow of the first four lamps, read of the lamps that are given
               (colours: 0 red, 1 yellow, 2 green, 3 white; arrows: 0 none, 1 up, 2 down, 3 left, 4 right, 5 up left, 6 up right,
               7 down left, 8 down right)
-            15 whether a group is given, 16 the light that it joins, read where it is given
+            15 whether a group is given, 16 the light that it joins, read where it is given; where that light has a line, automatic (0)
+               and none (3) take it as if it were named, and a new one (2) is refused
    measure: the offset or station of a new line, read where the choice is 2 and the placement 0 or 1
    height:  in metres, read where it is given
    points:  the coordinates of a new line, read where the choice is 2 and the placement 2
