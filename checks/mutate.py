@@ -108,7 +108,8 @@ EDITS = [
 
 
 REFERENCE = re.compile(r'Rattle·(\w+?)(?:·(?:specs|proofs))?\.(specs|proofs)\.(?:declared\.)?([A-Z]\w*)')
-DECLARED = re.compile(r'Rattle·(\w+?)(?:·specs)?\.specs\.declared\.(\w+)')
+# a type of a crate's library, or of one of its source files
+DECLARED = re.compile(r'Rattle·(\w+?)(?:·specs)?\.specs\.declared\.(?:([a-z]\w*)\.)?([A-Z]\w*)')
 TYPE = re.compile(r'^pub (?:struct|enum) (\w+).*?^}\n', re.M | re.S)
 
 
@@ -133,17 +134,18 @@ def law_alone(here, root):
         modules.add(module)
         text = read(source(module))
         ahead += REFERENCE.findall(text)
-        types |= set(DECLARED.findall(text))
-    crates = {crate for crate, _, _ in modules} | {crate for crate, _ in types}
-    library = {crate: read('%s/crates/%s/src/lib.rt' % (here, crate)) for crate in crates}
-    blocks = {crate: {m.group(1): m.group(0) for m in TYPE.finditer(text)} for crate, text in library.items()}
+        types |= {(crate, file or 'lib', name) for crate, file, name in DECLARED.findall(text)}
+    crates = {crate for crate, _, _ in modules} | {crate for crate, _, _ in types}
+    files = {(crate, 'lib') for crate in crates} | {(crate, file) for crate, file, _ in types}
+    library = {(crate, file): read('%s/crates/%s/src/%s.rt' % (here, crate, file)) for crate, file in files}
+    blocks = {at: {m.group(1): m.group(0) for m in TYPE.finditer(text)} for at, text in library.items()}
     grown = None
     while grown != types:
         grown = set(types)
-        for crate, name in grown:
-            words = set(re.findall(r'\w+', blocks[crate][name]))
-            types |= {(other, word) for other in crates for word in words & set(blocks[other])
-                      if other == crate or re.search(r'\b%s::%s\b' % (other, word), library[crate])}
+        for crate, file, name in grown:
+            words = set(re.findall(r'\w+', blocks[crate, file][name]))
+            types |= {(other, 'lib', word) for other in crates for word in words & set(blocks[other, 'lib'])
+                      if other == crate or re.search(r'\b%s::%s\b' % (other, word), library[crate, file])}
     for crate in crates:
         for kind in ('specs', 'proofs', 'src'):
             os.makedirs('%s/crates/%s/%s' % (root, crate, kind), exist_ok=True)
@@ -153,11 +155,14 @@ def law_alone(here, root):
                 shutil.copy(source((crate, kind, name)), '%s/crates/%s/%s/' % (root, crate, kind))
             with open('%s/crates/%s/%s/Lib.antt' % (root, crate, kind), 'w') as file:
                 file.write(''.join('pub mod %s\n' % name for name in kept))
-        kept = ''.join(blocks[crate][name] for c, name in sorted(types) if c == crate)
-        uses = [line for line in library[crate].splitlines()
-                if line.startswith('use ') and re.search(r'\b%s\b' % line.rstrip(';').split('::')[-1], kept)]
-        with open('%s/crates/%s/src/lib.rt' % (root, crate), 'w') as file:
-            file.write('\n'.join(uses + [kept]) if kept else '// Definitions only.\n')
+        inner = sorted({file for c, file, _ in types if c == crate and file != 'lib'})
+        for name in ['lib'] + inner:
+            kept = ''.join(blocks[crate, name][word] for c, file, word in sorted(types) if (c, file) == (crate, name))
+            uses = [line for line in library[crate, name].splitlines()
+                    if line.startswith('use ') and re.search(r'\b%s\b' % line.rstrip(';').split('::')[-1], kept)]
+            heads = ['pub mod %s;' % file for file in inner] if name == 'lib' else []
+            with open('%s/crates/%s/src/%s.rt' % (root, crate, name), 'w') as file:
+                file.write('\n'.join(heads + uses + [kept]) if heads or kept else '// Definitions only.\n')
     with open(root + '/crates.txt', 'w') as file:
         for line in read(here + '/crates.txt').splitlines():
             name, _, needs = line.partition(':')

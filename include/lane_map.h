@@ -47,8 +47,8 @@ extern "C" {
    Refusals: 1 no lanes; 2 unknown record (its kind, its number); 3 listed twice (1 lanes, 2 crosswalks, 3 lines);
    4 bad measure (1 height, 2 offset, 3 station); 5 bad shape (1 not finite, 2 too short); 6 no place (1 no lane geometry, 2 empty,
    3 degenerate centreline, 4 missing boundary, 5 no section, 6 empty stop line); 7 wrong group (1 controls crosswalks, 2 no light,
-   3 uses another line than the existing one that is named, 4 has a line and a new one is asked for); 8 wrong link (1 to 8, in the order of the rule's tests); 9 off the map; 10 full; 11 numbers spent;
-   12 no map; 13 no running fold or set; 14 short buffer.
+   3 uses another line than the one that is named, 4 has a line and a new one is asked for); 8 wrong link (1 to 8, in the order
+   of the rule's tests); 9 off the map; 10 full; 11 numbers spent; 12 no map; 13 no running fold or set; 14 short buffer.
 
    Kinds of records: 1 lane, 5 stop line, 6 signal, 7 crosswalk, 8 rule. */
 

@@ -25,7 +25,7 @@ newOrNone (some g) (Existing s) = false
 newOrNone (some g) (New how) = true
 newOrNone (some g) NoLine = true
 
--- the calls whose answer has changed, if no test before the choice refuses them
+-- the calls that are no longer answered as before: no test before the choice refuses them
 abbrev pub answeredAnew : NewTrafficSignal → Map → Bool
 answeredAnew a m = elim (beforeChoice a m) [ refused n ds ↦ false | done group ↦ newOrNone group (a .choice) ]
 
