@@ -138,9 +138,7 @@ impl Tables {
                 .collect()
         };
         let list = |i: usize, o: usize| -> Vec<u64> {
-            (0..w(5, i, o) as usize)
-                .map(|j| w(5, i, o + 1 + j))
-                .collect()
+            (0..w(5, i, o) as usize).map(|j| w(5, i, o + 1 + j)).collect()
         };
         let option = |i: usize, o: usize| (w(5, i, o) != 0).then(|| w(5, i, o + 1));
         let line = |k: usize, i: usize| Line {
@@ -268,10 +266,7 @@ fn put_rule(r: &mut Row<'_>, rule: &Rule) {
 /// The words of a change set or a fold.
 pub fn set_words(set: &FileSet) -> Vec<u64> {
     let mut w = vec![0; SET_WORDS];
-    for (l, list) in [&set.created, &set.modified, &set.deleted]
-        .iter()
-        .enumerate()
-    {
+    for (l, list) in [&set.created, &set.modified, &set.deleted].iter().enumerate() {
         w[l] = list.len() as u64;
         for (i, r) in list.iter().enumerate() {
             w[4 + l * 1024 + i * 2] = r.kind.into();

@@ -105,19 +105,11 @@ fn child(which: usize, stack: usize) {
 fn enough(which: usize, stack: usize) -> bool {
     let me = std::env::current_exe().unwrap();
     let args = [which.to_string(), stack.to_string()];
-    Command::new(me)
-        .args(args)
-        .output()
-        .unwrap()
-        .status
-        .success()
+    Command::new(me).args(args).output().unwrap().status.success()
 }
 
 fn main() {
-    let args: Vec<usize> = std::env::args()
-        .skip(1)
-        .map(|a| a.parse().unwrap())
-        .collect();
+    let args: Vec<usize> = std::env::args().skip(1).map(|a| a.parse().unwrap()).collect();
     if let [which, stack] = args[..] {
         return child(which, stack);
     }

@@ -45,7 +45,7 @@ same-call f g s e = rw e
 
 -- ---- every other call
 
-module _ (m : Map) (lanes : List ℕ) where
+module _ (m : Map) where
   choice-same : (group : Option ℕ) (c : StopLineChoice) → newOrNone group c ≡ false → checkChoice m group c ≡ before.checkChoice m group c
   unfolding checkChoice before.checkChoice
   choice-same group Automatic h = refl
@@ -54,13 +54,13 @@ module _ (m : Map) (lanes : List ℕ) where
   choice-same group NoLine h = refl
   choice-same group (Existing s) h = refl
 
-  plan-same : (group : Option ℕ) (c : StopLineChoice) (cs : List Float) → newOrNone group c ≡ false → planFor m lanes group c cs ≡ before.planFor m lanes group c cs
+  plan-same : (lanes : List ℕ) (group : Option ℕ) (c : StopLineChoice) (cs : List Float) → newOrNone group c ≡ false → planFor m lanes group c cs ≡ before.planFor m lanes group c cs
   unfolding planFor before.planFor
-  plan-same group Automatic cs h = refl
-  plan-same group (New how) cs h = refl
-  plan-same none NoLine cs h = refl
-  plan-same (some g) NoLine cs h = clash refl h
-  plan-same group (Existing s) cs h = refl
+  plan-same lanes group Automatic cs h = refl
+  plan-same lanes group (New how) cs h = refl
+  plan-same lanes none NoLine cs h = refl
+  plan-same lanes (some g) NoLine cs h = clash refl h
+  plan-same lanes group (Existing s) cs h = refl
 
 anew-by : (a : NewTrafficSignal) (m : Map) (g : Option ℕ) → answeredAnew a m ≡ false → beforeChoice a m ≡ done g → newOrNone g (a .choice) ≡ false
 anew-by a m g h e = rw (e, answeredAnew) at h
@@ -73,7 +73,7 @@ light-plan-same a m h =
     alike-then (checkHousing (a .housing)) _ _ (λ w p₃.
     alike (groupLine m (a .group)) _ _ (λ g p₄.
     let q = anew-by a m g h (unfold beforeChoice in rw (p₁, p₂, p₃, p₄)) in
-    rw (choice-same m (a .lanes) g (a .choice) q, plan-same m (a .lanes) g (a .choice) (a .points) q)))))
+    rw (choice-same m g (a .choice) q, plan-same m (a .lanes) g (a .choice) (a .points) q)))))
 
 light-same : (a : NewTrafficSignal) (m : Map) → answeredAnew a m ≡ false → lightEdit a m ≡ before.lightEdit a m
 unfolding lightEdit before.lightEdit
