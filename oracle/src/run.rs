@@ -92,15 +92,14 @@ impl Run {
     }
 
     /// A light whose group has a line, and that asks for a new one or for
-    /// none. Not compared; but where it asks for none, the Rust must agree on
-    /// the call that names the line, and 01 answers both alike.
+    /// none. Not compared; but where it asks for none, which the model takes
+    /// for the line named, the Rust must agree on the call that names it.
     fn joins(&self, call: &Call, judged: Judged) -> Verdict {
         if let Some(named) = self.named(call) {
             let beside = self.clone().call(&named);
             if matches!(beside, Verdict::Disagree(_)) {
                 return beside;
             }
-            assert_eq!(judged, model::judge(&self.file, &named));
         }
         let refusal = match judged {
             Judged::Refused(r) | Judged::Last(r) | Judged::AbsentLine(r) => r,
