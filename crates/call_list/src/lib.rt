@@ -25,7 +25,7 @@ pub const ANSWER: usize = 9;
 const NO_SUCH_CALL: u64 = 255;
 
 // An answer: 0 done, 1 to 14 the refusal, 255 no such call; the number answered; the details of a refusal; the names of a line's ends.
-#[derive(Drop)]
+#[derive(Clone, Copy)]
 pub struct Reply {
     pub what: u64,
     pub number: u64,

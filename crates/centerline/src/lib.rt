@@ -10,7 +10,7 @@ pub mod resample; // resample.rt: evenly spaced points
 pub mod middle; // middle.rt: the centreline
 
 // A polyline: the first `count` points, x, y and z in turn.
-#[derive(Drop)]
+#[derive(Clone, Copy)]
 pub struct Line {
     pub coords: [f64; 192],
     pub count: usize,

@@ -3,7 +3,7 @@ pub mod layout;
 pub mod lists;
 
 // How many entries a running fold has as created, modified and deleted.
-#[derive(Drop)]
+#[derive(Clone, Copy)]
 pub struct Tally {
     pub created: u64,
     pub modified: u64,

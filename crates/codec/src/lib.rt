@@ -8,7 +8,7 @@ ghost use Rattle.codec.specs.Double.{read_low, low_bytes, double};
 ghost use Rattle.codec.specs.Answers.{NumberRead, DoubleRead, Wrote};
 
 // What is read as a whole number, and the place after it.
-#[derive(Drop)]
+#[derive(Clone, Copy)]
 pub enum Number {
     Got(u64, usize),
     Fault,

@@ -4,7 +4,7 @@ use placing::MaybeNumber;
 use refusal::Refusal;
 
 // The rule that makes vehicles stop at a new line.
-#[derive(Drop)]
+#[derive(Clone, Copy)]
 pub enum StopRule {
     StopSign,
     Marking,
@@ -12,7 +12,7 @@ pub enum StopRule {
 }
 
 // Which line a light uses.
-#[derive(Drop)]
+#[derive(Clone, Copy)]
 pub enum StopLineChoice {
     // the group's, or one that a rule of the first lane names, or a new one at the end of the first lane
     Automatic,
@@ -22,7 +22,7 @@ pub enum StopLineChoice {
 }
 
 // A lamp.
-#[derive(Drop)]
+#[derive(Clone, Copy)]
 pub struct SignalBulb {
     pub position: geometry::Point3,
     pub color: map::BulbColor,
@@ -30,7 +30,7 @@ pub struct SignalBulb {
 }
 
 // How a lamp looks.
-#[derive(Drop)]
+#[derive(Clone, Copy)]
 pub struct Look {
     pub color: map::BulbColor,
     pub arrow: map::BulbArrow,
@@ -38,20 +38,20 @@ pub struct Look {
 
 // A light's lamps: the standard ones, or those that are given. The positions of given lamps come beside the request, any number of
 // them; the looks of the first four stand here. More than four are refused, so a fifth has none.
-#[derive(Drop)]
+#[derive(Clone, Copy)]
 pub struct Lamps {
     pub given: bool,
     pub looks: [Look; 4],
 }
 
-#[derive(Drop)]
+#[derive(Clone, Copy)]
 pub enum Height {
     Standard,
     Metres(f64),
 }
 
 // A new light, but its lists: the lanes, the points of a given line, of a given housing and of given lamps come beside it.
-#[derive(Drop)]
+#[derive(Clone, Copy)]
 pub struct SignalRequest {
     pub choice: StopLineChoice,
     pub housing_given: bool,

@@ -6,7 +6,7 @@ use files::{ChangesRead, MapRead, Written};
 use made_files::get;
 
 // How many files were tried, refused and accepted, and how many answers were wrong. The sum tells altered tables.
-#[derive(Drop)]
+#[derive(Clone, Copy)]
 pub struct Count {
     pub tried: u64,
     pub refused: u64,

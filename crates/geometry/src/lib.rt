@@ -6,14 +6,14 @@ pub mod double; // double.rt: tests on one number, and its clamp
 pub mod point; // point.rt: points and vectors
 
 // A point of the plane, or a vector.
-#[derive(Drop)]
+#[derive(Clone, Copy)]
 pub struct Point2 {
     pub x: f64,
     pub y: f64,
 }
 
 // A point in space, or a vector.
-#[derive(Drop)]
+#[derive(Clone, Copy)]
 pub struct Point3 {
     pub x: f64,
     pub y: f64,
@@ -34,7 +34,7 @@ pub enum MaybePoint3 {
 }
 
 // Where on a polyline: the segment and how far along it, from 0 to 1.
-#[derive(Drop)]
+#[derive(Clone, Copy)]
 pub struct Location {
     pub segment: u64,
     pub fraction: f64,

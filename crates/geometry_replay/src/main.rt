@@ -4,7 +4,7 @@
 mod lines;
 mod points;
 
-#[derive(Drop)]
+#[derive(Clone, Copy)]
 pub struct Tally {
     pub met: u64,
     pub missed: u64,

@@ -3,7 +3,7 @@ use geometry::{MaybePoint2, Point2, Point3, double, point};
 use sample_text::{double_at, expect, expect_number};
 
 // Up to seven doubles of a request. Where it has fewer, the rest is not used.
-#[derive(Drop)]
+#[derive(Clone, Copy)]
 pub struct Doubles {
     pub a: f64,
     pub b: f64,

@@ -3,7 +3,7 @@
 use printing::{say, word};
 
 // A word that was read: its value, where the next one starts, and what is wrong, 0 for nothing; then `at` is where it stands.
-#[derive(Drop)]
+#[derive(Clone, Copy)]
 pub struct Field {
     pub value: u64,
     pub at: usize,

@@ -20,7 +20,7 @@ pub const REFUSED: u64 = 4;
 // nothing, since the line could not be read or shown: not as expected
 pub const UNREAD: u64 = 5;
 
-#[derive(Drop)]
+#[derive(Clone, Copy)]
 pub struct State {
     pub tally: Tally,
     // whether a map is open

@@ -24,7 +24,7 @@ pub struct LineNumber {
 
 // The numbers of a light: its line, its signal, and its rule, which is a new one or that of the light that it joins. Where they are spent
 // (late), new ones are all the first.
-#[derive(Drop)]
+#[derive(Clone, Copy)]
 pub struct Light {
     pub has_line: bool,
     pub line: u64,

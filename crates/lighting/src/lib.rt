@@ -9,7 +9,7 @@ pub mod housings; // housings.rt: where the signal goes
 pub mod plan; // plan.rt: all that the call tests
 
 // Where a light's line comes from.
-#[derive(Drop)]
+#[derive(Clone, Copy)]
 pub enum LinePlan {
     Use(u64),
     NoLine,

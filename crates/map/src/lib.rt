@@ -5,13 +5,13 @@ pub mod update;
 ghost use Rattle.std.specs.Prelude.{◌≡◌};
 ghost use Rattle.map.specs.Record.{signal_kind_number, bulb_color_number, bulb_arrow_number};
 
-#[derive(Drop)]
+#[derive(Clone, Copy)]
 pub enum SignalKind {
     Vehicle,
     Pedestrian,
 }
 
-#[derive(Drop)]
+#[derive(Clone, Copy)]
 pub enum BulbColor {
     Red,
     Yellow,
@@ -19,7 +19,7 @@ pub enum BulbColor {
     White,
 }
 
-#[derive(Drop)]
+#[derive(Clone, Copy)]
 pub enum BulbArrow {
     NoArrow,
     Up,
@@ -40,7 +40,7 @@ pub enum Found {
 }
 
 // A lane's row of words.
-#[derive(Drop)]
+#[derive(Clone, Copy)]
 pub struct LaneRow {
     pub number: u64,
     pub kind: u64,
@@ -65,7 +65,7 @@ pub struct RuleHead {
 }
 
 // A list of a rule.
-#[derive(Drop)]
+#[derive(Clone, Copy)]
 pub struct Entries {
     pub count: usize,
     pub entries: [u64; 16],

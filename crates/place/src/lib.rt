@@ -7,7 +7,7 @@ use geometry::{MaybeNearest, Point3};
 use refusal::Refusal;
 
 // Where a stop line goes. Given points come beside it, in a slice of coordinates.
-#[derive(Drop)]
+#[derive(Clone, Copy)]
 pub enum Placement {
     // this far before the end of the first lane
     AtLaneEnd(f64),
@@ -17,14 +17,14 @@ pub enum Placement {
 }
 
 // A line that may be missing: one without points is there all the same.
-#[derive(Drop)]
+#[derive(Clone, Copy)]
 pub struct MaybeLine {
     pub there: bool,
     pub line: centerline::Line,
 }
 
 // Which side of a lane.
-#[derive(Drop)]
+#[derive(Clone, Copy)]
 pub enum LaneSide {
     Left,
     Right,
@@ -39,7 +39,7 @@ pub struct Side {
 }
 
 // What an end of a cross-section is called: a lane, and the side of it whose boundary has the point.
-#[derive(Drop)]
+#[derive(Clone, Copy)]
 pub struct EndName {
     pub lane: u64,
     pub side: LaneSide,
@@ -53,7 +53,7 @@ pub struct SideNearest {
 }
 
 // How far to the left a boundary's nearest point lies, that point, and whose it is.
-#[derive(Drop)]
+#[derive(Clone, Copy)]
 pub struct SectionEnd {
     pub lateral: f64,
     pub point: Point3,
@@ -81,14 +81,14 @@ pub enum Walked {
 }
 
 // The names of both ends.
-#[derive(Drop)]
+#[derive(Clone, Copy)]
 pub struct SectionNames {
     pub left: EndName,
     pub right: EndName,
 }
 
 // Both names, for a line that was drawn across lanes.
-#[derive(Drop)]
+#[derive(Clone, Copy)]
 pub enum MaybeEnds {
     At(SectionNames),
     Nothing,

@@ -7,20 +7,20 @@ pub mod lists; // lists.rt: tests of a whole list
 pub mod checks; // checks.rt: a list of lanes, and given points
 pub mod stop_line; // stop_line.rt: where a stop line goes
 
-#[derive(Drop)]
+#[derive(Clone, Copy)]
 pub enum Checked {
     Fine,
     Refused(Refusal),
 }
 
-#[derive(Drop)]
+#[derive(Clone, Copy)]
 pub enum MaybeNumber {
     At(u64),
     Nothing,
 }
 
 // Where the check is fine: the line, whether the station was moved, and the names of both ends of a cross-section.
-#[derive(Drop)]
+#[derive(Clone, Copy)]
 pub struct PlacedLine {
     pub checked: Checked,
     pub line: Line,

@@ -3,7 +3,7 @@ ghost use Rattle.std.specs.Prelude.{◌≡◌};
 ghost use Rattle.refusal.specs.Refusal.{refusal_number};
 
 // The fourteen refusals, in the order of their numbers. The fields are the details, as numbers.
-#[derive(Drop)]
+#[derive(Clone, Copy)]
 pub enum Refusal {
     NoLanes,
     // kind and number of the record

@@ -24,7 +24,7 @@ pub struct SignalRow {
 }
 
 // The lamps that are stored: as many as are counted, in the room for four. More than four are refused.
-#[derive(Drop)]
+#[derive(Clone, Copy)]
 pub struct Bulbs {
     pub count: u64,
     pub bulbs: [SignalBulb; 4],
