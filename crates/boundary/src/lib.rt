@@ -1,5 +1,7 @@
 // The edits' arguments as numbers, for callers in other languages and for calls that are held in memory. A number that is
 // no case of its enum is told apart by the tests here; the readers answer a case for every number.
+#![tactic(auto)]
+
 ghost use Rattle.std.specs.Prelude.{◌≡◌, not, ◌&&◌, ◌||◌, [], ◌∷◌, ◌<◌, eqb, ltb, length, get_or};
 ghost use Rattle.boundary.specs.Numbers.{placement_of, stop_rule_of, choice_of, signal_kind_of, bulb_color_of, bulb_arrow_of, number_if, height_of, flag, look_at, request_of, look_cases, lamp_cases, signal_cases};
 

@@ -1,4 +1,6 @@
 // A change set built in a lent table: entries and warnings added, then `normalize`.
+#![tactic(auto)]
+
 ghost use Rattle.std.specs.Prelude.{◌≡◌, ◌<◌, length};
 ghost use Rattle.map.specs.Entity.{entity};
 ghost use Rattle.changes.specs.ChangeSet.{tally_of};

@@ -1,4 +1,6 @@
 // Lists of calls in plain memory: what a row asks for, what it is answered, and what a run of them leaves.
+#![tactic(auto)]
+
 ghost use Rattle.std.specs.Prelude.{◌≡◌, ◌+◌, ◌*◌, ◌/◌, ◌≤◌, true, not, ◌&&◌, ◌||◌, eqb, leb, length, get_or};
 ghost use Rattle.std.proofs.Math.Option.{none};
 ghost use Rattle.refusal.specs.Refusal.{refusal_details};

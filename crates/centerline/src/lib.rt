@@ -2,6 +2,8 @@
 //
 // The inner functions ask that a polyline has at most 64 points, which an array here holds.
 
+#![tactic(auto)]
+
 ghost use Rattle.centerline.specs.Line.{Empty};
 
 pub mod measure; // measure.rt: the length up to each point

@@ -1,4 +1,6 @@
 // Change sets, folds and the tally.
+#![tactic(auto)]
+
 pub mod layout;
 pub mod lists;
 

@@ -1,4 +1,6 @@
 // Passing over a map file's tables, before anything is stored.
+#![tactic(auto)]
+
 ghost use Rattle.std.specs.Prelude.{◌≡◌, ◌+◌, ◌≤◌, ◌<◌, length};
 ghost use Rattle.checking.specs.Checking.{points_in, TableChecked};
 

@@ -1,4 +1,6 @@
 // Whole numbers and doubles as bytes: each function works on a slice from a place on.
+#![tactic(auto)]
+
 ghost use Rattle.std.specs.Prelude.{◌≡◌, true, not, ◌+◌, ◌≤◌, ◌<◌, T, length, drop};
 ghost use Rattle.std.specs.Float.Ieee.{is_nan};
 ghost use Rattle.std.proofs.lemmas.List.Edits.{sets};

@@ -1,4 +1,6 @@
 // The three edits: what a caller asks for, and what it is answered.
+#![tactic(auto)]
+
 use changes::Tally;
 use placing::MaybeNumber;
 use refusal::Refusal;

@@ -1,6 +1,8 @@
 // The edits for programs in other languages: numbers and slices. The tally is three words, an answer nine: 0 done, 1 to 14 the refusal,
 // 255 no such call; the number answered; the two details of a refusal; whether the ends of a line are named, and lane and side of each.
 // The first word is the result too.
+#![tactic(auto)]
+
 ghost use Rattle.std.specs.Prelude.{◌≡◌};
 ghost use Rattle.std.proofs.Math.Option.{some};
 ghost use Rattle.call_list.specs.Reply.{reply_words};

@@ -6,6 +6,8 @@
 // becomes the fold; `short` with a sum of 1, 2, 4 and 8 for words, coords, fold and set lent one too short. `row` puts a number into a
 // word of the request's row; `list` makes the request a list of calls, with how many words of the row and how many words for answers
 // are lent. And files: `read` (a map file), `set` (a set file), `write` and `give` (the map's file and the fold's, into that many bytes).
+#![tactic(auto)]
+
 ghost use Rattle.std.specs.Prelude.{◌≤◌};
 
 use call_list::{Carried, Ran, Reply, RunAnswer};

@@ -2,6 +2,8 @@
 // answer, change set, ends, map and running fold are compared with what stands in the next line: what the Rust gave, or what the example
 // says (it has no fold). A refusal must leave every word as it was. Writes for each file how many calls were carried out and how many of
 // them named ends, how many roots were asked, how often each refusal came with each detail, and how many answers were met.
+#![tactic(auto)]
+
 use call_list::Reply;
 use changes::Tally;
 use libc::STDOUT_FILENO;

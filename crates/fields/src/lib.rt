@@ -1,6 +1,8 @@
 // The fields of a map's records, read from a file's bytes into a row of words and a row of
 // coordinates. A reader's place is lost at the first fault, and what follows reads nothing: so a
 // record is a list of calls, and the fault shows at its end.
+#![tactic(auto)]
+
 ghost use Rattle.std.specs.Prelude.{◌≡◌, ◌+◌, ◌≤◌, ◌<◌, length};
 ghost use Rattle.map.specs.MapFile.{coordinate, height, point};
 ghost use Rattle.map.specs.Tables.{point_from};

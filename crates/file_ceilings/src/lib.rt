@@ -1,4 +1,6 @@
 // Files at each ceiling, and one past it.
+#![tactic(auto)]
+
 use file_trials::Count;
 use made_files::{bytes, number};
 

@@ -1,4 +1,6 @@
 // What came of a class of files, written as a line.
+#![tactic(auto)]
+
 use file_trials::Count;
 use libc::STDOUT_FILENO;
 

@@ -1,4 +1,6 @@
 // Files damaged: cut short, a byte changed, a number in a longer form, bytes left over; and buffers too short to write to.
+#![tactic(auto)]
+
 use file_trials::Count;
 use made_files::{bytes, get, low, part, put};
 

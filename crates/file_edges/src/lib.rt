@@ -1,4 +1,6 @@
 // Coordinates and heights at the edge of the map, past it and not finite.
+#![tactic(auto)]
+
 use file_trials::Count;
 use made_files::{bytes, eight, number, part};
 

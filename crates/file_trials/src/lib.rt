@@ -1,6 +1,8 @@
 // One file tried, for the programs that try many: read into lent tables and, where it is read, written back. Words of a set's
 // length are a set's table, for which coordinates have no meaning; others are a map's. What is right is counted, and shown by
 // the programs; proved is that every call is safe and ends.
+#![tactic(auto)]
+
 use changes::layout;
 use files::{ChangesRead, MapRead, Written};
 use made_files::get;

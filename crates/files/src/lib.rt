@@ -1,4 +1,6 @@
 // Map files and change set files.
+#![tactic(auto)]
+
 ghost use Rattle.std.specs.Prelude.{◌≡◌};
 ghost use Rattle.mapfile.specs.MapBytes.{is_map_file};
 ghost use Rattle.files.specs.ReadInto.{MapReadInto, ChangesReadInto};

@@ -1,6 +1,8 @@
 // Map files and set files at the ceilings and the edges of the map, and past them. A file is refused and the tables stay as they
 // were, or it is read and written back as the same bytes. Writes for each class how many files were tried, refused and accepted,
 // and how many answers were wrong.
+#![tactic(auto)]
+
 use file_counts::say;
 use file_trials::Count;
 

@@ -1,4 +1,6 @@
 // Map files and change set files for programs in other languages: numbers and slices. The result is 0, or the refusal's number.
+#![tactic(auto)]
+
 ghost use Rattle.std.specs.Prelude.{◌≡◌};
 ghost use Rattle.files_export.specs.Left.{MapReadLeft, MapOpenedLeft, ChangesReadLeft, MapWriteLeft, ChangesWriteLeft, code_of, size_of};
 

@@ -1,6 +1,8 @@
 // Replays stored map files and set files, whole and spoilt: the request `map` or `set` with the file, the answer in the next
 // line. A refused file leaves the tables as they were, one that is read is written back as the same bytes. Writes how many were
 // tried, refused and accepted, and how many answers were wrong, for each part of the sample: it is read a part at a time.
+#![tactic(auto)]
+
 use file_counts::say;
 use file_trials::Count;
 

@@ -1,4 +1,6 @@
 // What every call begins and ends with: the tests of what it is lent, and the change set settled with the running fold.
+#![tactic(auto)]
+
 ghost use Rattle.std.specs.Prelude.{◌≡◌, true, ◌%◌, length};
 ghost use Rattle.rows.specs.Lists.{every};
 ghost use Rattle.geometry.specs.Point.{point_on_map};

@@ -1,5 +1,7 @@
 // Replays stored folds. `sets` begins a fold anew, `join` takes a set file into it; the answer stands in the next line.
 // Writes how many entries each fold has at its end, as created, modified and deleted, and how many answers were met.
+#![tactic(auto)]
+
 use changes::layout;
 use codec::Number;
 use libc::STDOUT_FILENO;

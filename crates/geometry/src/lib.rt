@@ -2,6 +2,8 @@
 //
 // The functions of the modules are total: each answers what its definition gives for any doubles.
 
+#![tactic(auto)]
+
 pub mod double; // double.rt: tests on one number, and its clamp
 pub mod point; // point.rt: points and vectors
 

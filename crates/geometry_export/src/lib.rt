@@ -2,6 +2,8 @@
 // in, the answer in arrays that the caller lends. The result is 0 where an answer was written; else it is
 // the refusal's number, or 254 where there is no answer, and nothing was written.
 
+#![tactic(auto)]
+
 pub mod written; // written.rt: answers written into lent arrays
 pub mod points; // points.rt: points
 pub mod vectors; // vectors.rt: vectors

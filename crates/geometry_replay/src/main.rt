@@ -1,6 +1,8 @@
 // Replays stored geometry answers: a request line, then its answer behind `= `. Writes how many were
 // met to the bit, how many were not, and how many are not asked here: functions that have no
 // definition here (`add2`, `lerp2`, `dot3`, `is_finite2`), and more than 64 points.
+#![tactic(auto)]
+
 mod lines;
 mod points;
 

@@ -1,4 +1,6 @@
 // A light that joins another: the lanes that the rule would list, and the rule put.
+#![tactic(auto)]
+
 ghost use Rattle.std.specs.Prelude.{◌≡◌, cond, [], ◌∷◌, ◌++◌, ◌≤◌, ◌<◌, length, get_or};
 ghost use Rattle.std.proofs.Math.Option.{none, some};
 ghost use Rattle.rows.specs.Lists.{or_else};

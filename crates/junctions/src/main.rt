@@ -1,6 +1,8 @@
 // What a person reads: two junctions drawn in both orders, and document 01's worked crossings, carried out by the proved code; or the
 // lines of any file in the same notation (docs/JUNCTIONS.md). For each call: what was asked, the answer, the change set; on request the
 // running fold, the tally and the map. Where an answer is expected, whether it came. The last line is `ok`, or how many did not.
+#![tactic(auto)]
+
 mod expected;
 mod notation;
 mod state;

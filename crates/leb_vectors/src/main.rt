@@ -1,5 +1,7 @@
 // Published ULEB128 vectors: DWARF's examples, the boundary of each length up to ten bytes, and forms that
 // are no number. Each number is written and read back, each form read; what comes out is held to the file stdout.
+#![tactic(auto)]
+
 ghost use Rattle.std.specs.Prelude.{◌≤◌, length};
 
 // The first n bytes, two hexadecimal digits each.

@@ -1,5 +1,7 @@
 // The edits for callers that keep the running fold's tally in memory: it is lent, and brought up to date. The edits take it by value and
 // answer it anew; these functions only store what was answered.
+#![tactic(auto)]
+
 ghost use Rattle.edit.specs.Lent.{CallLeft};
 ghost use Rattle.edit.specs.Links.{set_regulatory_links};
 ghost use Rattle.edit.specs.StopLine.{add_stop_line};

@@ -1,4 +1,6 @@
 // `add_traffic_signal` with the tally lent, as `lent_tally` has the other two edits. A crate of its own, since its proof has all of the light's below it.
+#![tactic(auto)]
+
 ghost use Rattle.edit.specs.Lent.{CallLeft};
 ghost use Rattle.edit.specs.Light.{add_traffic_signal};
 ghost use Rattle.edit.specs.Request.{new_traffic_signal};

@@ -1,4 +1,6 @@
 // What a light lifts from its line: stop signs and markings there lose the call's lanes, and go where none is left.
+#![tactic(auto)]
+
 pub mod apply; // apply.rt: taken from the tables
 pub mod note; // note.rt: noted in a change set
 

@@ -1,4 +1,6 @@
 // A light's draft: the numbers that it hands out, and its change set.
+#![tactic(auto)]
+
 ghost use Rattle.std.specs.Prelude.{◌≡◌, true, ◌&&◌, ◌<◌, length};
 ghost use Rattle.std.proofs.Math.Option.{none, some};
 ghost use Rattle.store.specs.Layout.{SizedWords, next_of};

@@ -1,4 +1,6 @@
 // What is known of a light before anything is stored: its plan, its numbers, its lamps, and that there is room for it.
+#![tactic(auto)]
+
 pub mod tests; // tests.rt: whether it is on the map, and whether there is room
 
 ghost use Rattle.std.specs.Prelude.{◌≡◌, true, ◌≤◌};

@@ -1,5 +1,7 @@
 // A light stored in a map's tables: what it lifts, the rule of the light that it joins, its line, its signal, and its own rule. Nothing here
 // refuses: who calls it has asked for room and numbers before.
+#![tactic(auto)]
+
 ghost use Rattle.std.specs.Prelude.{◌≡◌, true};
 ghost use Rattle.place.specs.Readable.{ReadableWords, Readable};
 ghost use Rattle.light_store.specs.Storing.{LiftStored, line_maybe, RowReady, GroupStored, LineAsks, LineStored, SignalAsks, SignalStored, RuleAsks, RuleStored, StoreAsks, LightStored};

@@ -1,4 +1,6 @@
 // A light's plan: what it stops at, where its signal goes, and what is stored of it.
+#![tactic(auto)]
+
 use centerline::Line;
 use place::{MaybeEnds, Placement};
 use placing::{Checked, MaybeNumber};

@@ -1,4 +1,6 @@
 // `set_regulatory_links`: the lanes, crosswalks and stop lines that a rule names.
+#![tactic(auto)]
+
 ghost use Rattle.std.specs.Prelude.{◌≡◌, true, false, length, get_or};
 ghost use Rattle.refusal.specs.Answer.{done};
 ghost use Rattle.store.specs.Layout.{SizedWords, row_of};

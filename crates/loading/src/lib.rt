@@ -1,4 +1,6 @@
 // Records of any kind, read from a file's bytes into the tables.
+#![tactic(auto)]
+
 ghost use Rattle.std.specs.Prelude.{◌≡◌, ◌+◌, ◌≤◌, ◌<◌, length};
 ghost use Rattle.store.specs.Layout.{limit_of, width_of, coord_width_of, all_words, all_coords};
 ghost use Rattle.records.specs.Records.{record_form, record_in, RowRead};

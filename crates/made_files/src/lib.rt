@@ -1,5 +1,7 @@
 // Map files and set files made byte by byte, for the programs that try them: nothing of the proved writers is used. What a
 // file holds is shown by the programs; proved is that every call is safe and ends. A byte past the room is left out.
+#![tactic(auto)]
+
 pub mod sets;
 
 pub fn get(s: &[u8], i: usize) -> u8 {

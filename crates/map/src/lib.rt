@@ -1,4 +1,6 @@
 // The map's records, and the tables that hold them.
+#![tactic(auto)]
+
 pub mod lookup;
 pub mod update;
 

@@ -1,4 +1,6 @@
 // A whole map file, before anything is stored.
+#![tactic(auto)]
+
 ghost use Rattle.std.specs.Prelude.{◌≡◌, ◌≤◌, length};
 ghost use Rattle.mapfile.specs.MapBytes.{is_map_file, MarksChecked, LinesChecked, TablesChecked};
 

@@ -1,4 +1,6 @@
 // A map file loaded into the tables. What is no map file was refused before.
+#![tactic(auto)]
+
 ghost use Rattle.std.specs.Prelude.{◌≡◌, length};
 ghost use Rattle.store.specs.Layout.{all_words, all_coords};
 ghost use Rattle.mapload.specs.MapLoad.{MarksLoaded, LinesLoaded, MapLoaded};

@@ -1,4 +1,6 @@
 // The map's records, tables and file, written from the tables.
+#![tactic(auto)]
+
 ghost use Rattle.std.specs.Prelude.{◌≡◌, ◌+◌, ◌≤◌, ◌<◌, length};
 ghost use Rattle.codec.specs.Format.{◌⊗◌};
 ghost use Rattle.codec.specs.Number.{number};

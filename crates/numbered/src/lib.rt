@@ -1,4 +1,6 @@
 // The three calls by numbers: enums as numbers, and the answer as words have it.
+#![tactic(auto)]
+
 ghost use Rattle.std.specs.Prelude.{◌≡◌, length};
 ghost use Rattle.std.proofs.Math.Option.{some};
 ghost use Rattle.call_list.specs.Step.{StepLeft};

@@ -1,5 +1,7 @@
 // What the edits read from the map before they store: where a stop line goes, and the checks on the way.
 
+#![tactic(auto)]
+
 pub mod lines; // lines.rt: a side of a lane, and its centreline
 pub mod section; // section.rt: the cross-section
 

@@ -1,4 +1,6 @@
 // A stop line's place: the checks of what is given, and the line or a refusal.
+#![tactic(auto)]
+
 use centerline::Line;
 use place::MaybeEnds;
 use refusal::Refusal;

@@ -1,4 +1,6 @@
 // Requests, answers, change sets and maps in words, for a person to read.
+#![tactic(auto)]
+
 pub mod decimal;
 mod limbs;
 pub mod map;

@@ -1,6 +1,8 @@
 // The fields of a map's records, written from a row of words and a row of coordinates. Past the end
 // of a row a word is 0 and a coordinate is a NaN, as the definitions read them: so no call asks
 // anything of a count, and every row has a written form.
+#![tactic(auto)]
+
 ghost use Rattle.std.specs.Prelude.{◌≡◌, not, cond, ◌+◌, min, T, eqb, get_or};
 ghost use Rattle.std.proofs.Math.Option.{none, some};
 ghost use Rattle.std.specs.Float.Ieee.{is_nan};

@@ -1,5 +1,7 @@
 // Values written as bytes, each from a place on. A call with too short a slice leaves it and
 // answers the place all the same: so the same calls tell the size and write.
+#![tactic(auto)]
+
 ghost use Rattle.std.specs.Prelude.{◌≡◌};
 ghost use Rattle.codec.specs.Number.{number};
 ghost use Rattle.putting.specs.Putting.{PutAt};

@@ -1,5 +1,7 @@
 // Two quays, each with a map of its own. The theorem that their neighbours play no part stands in specs/Quays.antt; the function here is what
 // it says of the code.
+#![tactic(auto)]
+
 ghost use Rattle.stop_lines.specs.Stop.{new_stop_line};
 ghost use Rattle.quays.specs.Quays.{BothLeft};
 

@@ -1,5 +1,7 @@
 // One value that carries the bytes of a file and how far they are used. The work is done by functions on a slice and a place; above them a few
 // thin functions take the value apart, and two functions with plain parameters begin one, for all other callers.
+#![tactic(auto)]
+
 ghost use Rattle.std.specs.Prelude.{◌≡◌, ◌≤◌, length, drop};
 ghost use Rattle.files.specs.ReadInto.{MapReadInto, ChangesReadInto};
 ghost use Rattle.reader.specs.Next.{place_after, NumberTaken};

@@ -1,4 +1,6 @@
 // The map's records, read from a file's bytes into a row of words and a row of coordinates.
+#![tactic(auto)]
+
 ghost use Rattle.std.specs.Prelude.{◌≡◌, ◌+◌, ◌≤◌, ◌<◌, length};
 ghost use Rattle.codec.specs.Format.{◌⊗◌};
 ghost use Rattle.codec.specs.Number.{number};

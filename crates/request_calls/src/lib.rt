@@ -1,4 +1,6 @@
 // Requests of stored samples and examples carried out on lent memory, and what was stored of their answers compared.
+#![tactic(auto)]
+
 use call_list::{Carried, Reply};
 use changes::Tally;
 use files::{Opened, Written};

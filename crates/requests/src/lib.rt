@@ -3,6 +3,8 @@
 // from 0, 32 and 64 on; in the pool of reals an offset or station stands at 0, a height at 1, given points from 2, a housing from 212, the
 // lamps from 422. There is room for 32 numbers a list, 70 points a line and twelve lamps: a request with more makes no call. What a row
 // asks for is shown by the replays; proved is that every text is read safely.
+#![tactic(auto)]
+
 ghost use Rattle.std.specs.Prelude.{◌<◌};
 
 use sample_text::{Word, double_at, name_at, number_at};

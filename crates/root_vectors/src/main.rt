@@ -1,6 +1,8 @@
 // Runs published squareRoot vectors: each line of the input is an operand's pattern and its root's, in 16 digits.
 // The vectors are glibc's for binary64, rounded to nearest (math/auto-libm-test-out-sqrt and libm-test-sqrt.inc of
 // version 2.36); for a NaN the root's pattern is that of document 01.
+#![tactic(auto)]
+
 ghost use Rattle.std.specs.Prelude.{◌≡◌, ◌+◌, ◌≤◌, ◌<◌, length};
 
 const LINE: usize = 34;

@@ -1,4 +1,6 @@
 // One row of a list of calls carried out.
+#![tactic(auto)]
+
 ghost use Rattle.std.specs.Prelude.{◌≡◌, length};
 ghost use Rattle.call_list.specs.Step.{StepLeft};
 ghost use Rattle.row_calls.specs.Light.{LightParts, line_part, housing_part, lamps_part};

@@ -1,4 +1,6 @@
 // The tests of one row: whether its kinds, flags, counts and coordinates are those of a record.
+#![tactic(auto)]
+
 ghost use Rattle.std.specs.Prelude.{◌≡◌, ◌&&◌, ◌+◌, ◌*◌, ◌≤◌, ◌<◌, length, get_or};
 ghost use Rattle.rows.specs.Lists.{every};
 ghost use Rattle.rows.specs.Rows.{cut};

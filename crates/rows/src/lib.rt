@@ -1,4 +1,6 @@
 // Rows of fixed width in flat slices: the code that every table shares.
+#![tactic(auto)]
+
 ghost use Rattle.std.specs.Prelude.{◌≡◌, ◌+◌, ◌*◌, ◌≤◌, ◌<◌, length};
 ghost use Rattle.rows.specs.Table.{rising};
 ghost use Rattle.rows.specs.Rows.{cut, pasted, moved, numbers_at, index_of};

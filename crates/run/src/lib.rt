@@ -1,1 +1,3 @@
 // Runs of edits. Definitions and laws only so far.
+
+#![tactic(auto)]

@@ -1,5 +1,7 @@
 // Runs for programs in other languages: numbers and slices, the tally three words. The result is 0, or the refusal's number where nothing
 // was carried out.
+#![tactic(auto)]
+
 ghost use Rattle.std.specs.Prelude.{◌≡◌};
 ghost use Rattle.call_list.specs.Rows.{rows_in};
 ghost use Rattle.tally_words.specs.Words.{tally_in};

@@ -1,4 +1,6 @@
 // The running fold against its map.
+#![tactic(auto)]
+
 ghost use Rattle.std.specs.Prelude.{◌≡◌, ◌+◌, ◌*◌, ◌≤◌, ◌<◌, length};
 ghost use Rattle.store.specs.Layout.{SizedWords};
 ghost use Rattle.map.specs.Entity.{entity};

@@ -1,4 +1,6 @@
 // Lists of calls carried out on lent memory, one after another.
+#![tactic(auto)]
+
 ghost use Rattle.std.specs.Prelude.{◌≡◌};
 ghost use Rattle.rows.specs.Lists.{list_to};
 ghost use Rattle.call_list.specs.Rows.{row_at, rows_in};

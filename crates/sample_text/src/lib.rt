@@ -1,5 +1,7 @@
 // The words of stored samples, for the programs that replay them: numbers in decimal, doubles as 16 hexadecimal digits, names,
 // lists, points, bytes in pairs of digits. What a word says is shown by the replays; proved is that every text is read safely.
+#![tactic(auto)]
+
 pub mod bytes;
 
 ghost use Rattle.std.specs.Prelude.{◌≡◌, ◌<◌, ◌≤◌, length};

@@ -1,4 +1,6 @@
 // Whether a table is a change set, warnings included.
+#![tactic(auto)]
+
 ghost use Rattle.std.specs.Prelude.{◌≡◌, ◌&&◌, ◌+◌, ◌*◌, ◌≤◌, length};
 ghost use Rattle.rows.specs.Lists.{every};
 ghost use Rattle.changes.specs.ChangeSet.{warning};

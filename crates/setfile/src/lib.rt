@@ -1,4 +1,6 @@
 // A change set file: written from its table, and loaded into one.
+#![tactic(auto)]
+
 ghost use Rattle.std.specs.Prelude.{◌≡◌, ◌+◌, ◌*◌, ◌≤◌, ◌<◌, length};
 ghost use Rattle.changes.specs.ChangeFile.{entry, warning_form, entries, warnings, change_file};
 ghost use Rattle.changes.specs.Layout.{set_words, from_of, ref_at, refs_at, warning_at, warnings_at, change_set_of};

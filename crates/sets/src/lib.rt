@@ -1,4 +1,6 @@
 // Change sets and running folds in lent tables: docs/TABLES.md.
+#![tactic(auto)]
+
 ghost use Rattle.std.specs.Prelude.{◌≡◌, ◌+◌, ◌*◌, ◌≤◌, ◌<◌, ◌++◌, length, ◌&&◌};
 ghost use Rattle.changes.specs.ChangeSet.{sort_refs};
 ghost use Rattle.changes.specs.Layout.{set_words, count_in, list_in};

@@ -1,4 +1,6 @@
 // A new signal: its lamps, given or standard, its row of the tables, and the tests of what is stored of it.
+#![tactic(auto)]
+
 ghost use Rattle.std.specs.Prelude.{◌≡◌, [], ◌∷◌, ◌≤◌, ◌<◌, Float, get_or};
 ghost use Rattle.std.specs.Float.{nan};
 ghost use Rattle.rows.specs.Lists.{or_default};

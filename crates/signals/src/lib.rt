@@ -1,4 +1,6 @@
 // `add_traffic_signal`: a light over lanes, with its line, its signal, and its rule or a place in another light's.
+#![tactic(auto)]
+
 ghost use Rattle.std.specs.Prelude.{◌≡◌, true, ◌<◌, length};
 ghost use Rattle.refusal.specs.Answer.{done};
 ghost use Rattle.map.specs.Tables.{map_of};

@@ -1,4 +1,6 @@
 // `add_stop_line`: a line across lanes, with the rule that makes vehicles stop at it.
+#![tactic(auto)]
+
 pub mod plan; // plan.rt: reading only: where the line goes, and whether there is room
 pub mod draft; // draft.rt: the change set
 pub mod storing; // storing.rt: the line and its rule on the map

@@ -1,4 +1,6 @@
 // Six tables of rows over two slices. Each edit is the same code for every kind.
+#![tactic(auto)]
+
 pub mod layout;
 
 ghost use Rattle.std.specs.Prelude.{◌≡◌, ◌+◌, ◌≤◌, ◌<◌, length};

@@ -1,4 +1,6 @@
 // A map's tables tested, and change sets folded, for programs in other languages.
+#![tactic(auto)]
+
 ghost use Rattle.std.specs.Prelude.{◌≡◌};
 ghost use Rattle.map.specs.Tables.{is_map_tables};
 ghost use Rattle.changes.specs.Layout.{change_set_of, fold_tables};

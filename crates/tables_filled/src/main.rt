@@ -1,4 +1,6 @@
 // Fills tables to every ceiling and one past each, edits, and prints what it reads back.
+#![tactic(auto)]
+
 ghost use Rattle.std.specs.Prelude.{◌≡◌, ◌-◌, ◌^◌, ◌<◌, ◌≤◌, length};
 ghost use Rattle.store.specs.Layout.{Sized, count_of, next_of, limit_of, width_of, coord_width_of};
 

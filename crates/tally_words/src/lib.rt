@@ -1,4 +1,6 @@
 // A running fold's tally as three words, for programs in other languages: created, modified, deleted.
+#![tactic(auto)]
+
 ghost use Rattle.std.specs.Prelude.{◌≡◌};
 ghost use Rattle.tally_words.specs.Words.{tally_in, tally_words};
 

@@ -1,4 +1,6 @@
 // Whether two slices are the tables of a map: one tight pass over what the counts say.
+#![tactic(auto)]
+
 ghost use Rattle.std.specs.Prelude.{◌≡◌, ◌&&◌, not, cond, eqb, ◌+◌, ◌*◌, ◌≤◌, ◌<◌, length};
 ghost use Rattle.store.specs.Layout.{Sized, SizedWords, count_of, limit_of, all_words};
 ghost use Rattle.map.specs.Tables.{is_map_tables};

@@ -1,0 +1,10 @@
+-- `call_list::no_call_reply` meets its contract. Assumes nothing.
+use Rattle.call_list.proofs.Replies.{no_call_reply, no_call_refused}
+use borrow.Author.Rules.{rules}
+use Rattle.call_list.proofs.no_call_reply.Goals as goal
+
+pub returns-in-Fine : goal.returns-in-Fine
+returns-in-Fine c = search (rules, no_call_reply)
+
+pub returns-in-Refused : goal.returns-in-Refused
+returns-in-Refused c = search (rules, no_call_refused)

@@ -1,0 +1,33 @@
+-- `centerline::resample::reaching_from` meets its contract: no segment before i reaches the station. Assumes nothing.
+use Rattle.centerline.proofs.Places.{passed_next, located_here, located_end}
+use Rattle.centerline.specs.Line.{Passed}
+use Rattle.polyline.proofs.Lines.{length-points, reach_past}
+use Rattle.geometry.specs.Polyline.{polyline_of}
+use lib.ListN.{length}
+use mathlib.Core.Path.{◌≡◌, sym, ◌∙◌}
+use Prim.Native.Nat.{◌-◌, ◌/◌, ◌≤◌}
+use borrow.Author.Rules.{rules}
+use native.Mathlib.Omega.{arith}
+use Rattle.centerline.proofs.resample.reaching_from.Goals as goal
+
+pub loop-i-init : goal.loop-i-init
+loop-i-init c = (omega arith, c.requires.4)
+
+pub returns-then-reaches : goal.returns-then-reaches
+returns-then-reaches c = let s = c.before.before.before.before.before.before.before.before in
+    let e = length-points s.args.cs.now in
+    let l = c.loop-i in
+    located_here _ _ _ _ e s.requires.0 s.requires.5 l.invariant.1 _ _ _ c.loop-i-test.true (s.requires.3.station l.i (omega arith)) (s.requires.3.segment l.i (omega arith))
+    (sym c.reaches.ensures ∙ c.if-reaches.true) c.clamp.ensures
+
+pub loop-i-preserved : goal.loop-i-preserved
+loop-i-preserved c = let s = c.before.before.before.before.before.before.before in
+    let e = length-points s.args.cs.now in
+    let l = c.loop-i in
+    (omega arith, passed_next _ _ _ l.invariant.1 (reach_past _ _ _ _ _ (s.requires.3.station l.i (omega arith)) (s.requires.3.segment l.i (omega arith)) (sym c.reaches.ensures ∙ c.if-reaches.false)))
+
+pub returns : goal.returns
+returns c = let s = c.before.before.before in
+    let n = length s.args.cs.now / 3 in
+    let e : n - 1 - 1 ≡ n - 2 = omega arith in
+    rw e (located_end _ _ _ _ (length-points s.args.cs.now) s.requires.0 s.requires.5 c.loop-i.invariant.1 c.loop-i-test.false c.loop-i.invariant.0)

@@ -1,0 +1,23 @@
+-- `centerline::reversed::reversed` meets its contract: the array has the last i points. Assumes nothing.
+use Rattle.centerline.proofs.Made.{reversed_is}
+use Rattle.centerline.proofs.Arrays.{Filled, filled_none, filled_next}
+use Rattle.centerline.specs.Line.{points_of}
+use Rattle.polyline.proofs.Lines.{length-points}
+use Rattle.geometry.specs.Polyline.{polyline_of, pt}
+use lib.ListN.{length}
+use mathlib.Core.Path.{◌≡◌, refl, ◌∙◌}
+use Prim.Native.Nat.{ℕ, ◌-◌, ◌/◌, ◌≤◌}
+use native.Mathlib.Omega.{arith}
+use Rattle.centerline.proofs.reversed.reversed.Goals as goal
+
+pub loop-i-init : goal.loop-i-init
+loop-i-init c = (omega arith, filled_none _ _ refl)
+
+pub loop-i-preserved : goal.loop-i-preserved
+loop-i-preserved c = (omega arith, filled_next _ _ _ _ c.loop-i.invariant.1 (omega arith) c.point-p.ensures)
+
+pub returns : goal.returns
+unfolding points_of
+returns c = let cs = c.args.cs.now in
+    let e : c.loop-i.i ≡ length cs / 3 = omega arith in
+    (rw e at c.loop-i.invariant.1.made) ∙ reversed_is (polyline_of cs) (length cs / 3) (length-points cs)

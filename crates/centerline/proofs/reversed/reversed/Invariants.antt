@@ -1,0 +1,17 @@
+-- `centerline::reversed::reversed` meets its contract: the array has the last i points. Assumes nothing.
+use Rattle.centerline.proofs.Made.{reversed_is}
+use Rattle.centerline.proofs.Arrays.{Filled, filled_none, filled_next}
+use Rattle.centerline.specs.Line.{points_of}
+use Rattle.polyline.proofs.Lines.{length-points}
+use Rattle.geometry.specs.Polyline.{polyline_of, pt}
+use lib.ListN.{length}
+use mathlib.Core.Path.{◌≡◌, refl, ◌∙◌}
+use Prim.Native.Nat.{ℕ, ◌-◌, ◌/◌, ◌≤◌}
+use native.Mathlib.Omega.{arith}
+use Rattle.centerline.proofs.reversed.reversed.Given as goal
+
+abbrev pub invariant-loop-i : goal.invariant-loop-i
+invariant-loop-i l = (l.i ≤ length l.cs / 3) × Filled (λ (j : ℕ). pt (polyline_of l.cs) (length l.cs / 3 - 1 - j)) l.coords l.i
+
+abbrev pub decreases-loop-i : goal.decreases-loop-i
+decreases-loop-i l = length l.cs / 3 - l.i

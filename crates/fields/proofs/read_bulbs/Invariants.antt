@@ -1,0 +1,12 @@
+use Prim.Native.Nat.{◌-◌}
+use borrow.Author.Rules.{rules}
+use Rattle.fields.proofs.BulbLaws as L
+use Rattle.fields.proofs.read_bulb.Reads as read-bulb-reads
+use Rattle.fields.proofs.read_word.Reads as read-word-reads
+use Rattle.fields.proofs.read_bulbs.Given as goal
+
+abbrev pub invariant-loop-i : goal.invariant-loop-i
+invariant-loop-i l = L.Lit l.s l.initial.words l.initial.coords l.initial.q l.n l.words l.coords l.q l.i
+
+abbrev pub decreases-loop-i : goal.decreases-loop-i
+decreases-loop-i l = l.n - l.i

@@ -1,0 +1,10 @@
+-- `files_export::lane_map_open` meets its contract. Assumes nothing.
+use Rattle.files_export.proofs.Laws.{exported}
+use borrow.Author.Rules.{rules}
+use Rattle.files_export.proofs.lane_map_open.Goals as goal
+
+pub returns-in-Done : goal.returns-in-Done
+returns-in-Done c = search (rules, exported)
+
+pub returns-in-Refused : goal.returns-in-Refused
+returns-in-Refused c = search (rules, exported)

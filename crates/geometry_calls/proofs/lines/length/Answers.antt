@@ -1,0 +1,16 @@
+-- `geometry_calls::lines::length` meets its contract. Assumes nothing.
+use Rattle.geometry_calls.proofs.Laws.{stands, passes}
+use Rattle.geometry.specs.Calls.{length_call}
+use Rattle.geometry_calls.specs.Answers.{tested}
+use Rattle.refusal.specs.Answer.{done}
+use mathlib.Core.Path.{sym, ap, ◌∙◌}
+use borrow.Author.Rules.{rules}
+use Rattle.geometry_calls.proofs.lines.length.Goals as goal
+
+pub returns-in-Refused : goal.returns-in-Refused
+unfolding length_call
+returns-in-Refused c = stands _ _ c.in-Refused.r (sym (ap tested c.in-Refused.is) ∙ c.line.ensures)
+
+pub returns-in-Passed : goal.returns-in-Passed
+unfolding length_call
+returns-in-Passed c = passes _ _ _ (sym (ap tested c.in-Passed.is) ∙ c.line.ensures) (ap done c.length.ensures)

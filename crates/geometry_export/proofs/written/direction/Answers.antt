@@ -1,0 +1,14 @@
+-- `geometry_export::written::direction` meets its contract. Assumes nothing.
+use mathlib.Core.Path.{refl}
+use borrow.Author.Rules.{rules}
+use Rattle.geometry_export.proofs.written.direction.Goals as goal
+
+pub returns-in-Refused : goal.returns-in-Refused
+returns-in-Refused c = rw c.in-Refused.is record { code = c.number.ensures; left = refl }
+
+pub returns-in-Nothing : goal.returns-in-Nothing
+returns-in-Nothing c = rw (c.in-Found.is, c.in-Nothing.is) record { code = refl; left = refl }
+
+pub returns-in-At : goal.returns-in-At
+returns-in-At c = let d = c.before.before in
+    rw (d.before.before.before.a2.given.1, d.m.given.1) record { code = refl; left = refl }

@@ -1,0 +1,12 @@
+-- `geometry_replay::parts` is safe and ends: fewer parts are left. Assumes nothing.
+use Rattle.std.proofs.Common.{arith, rules}
+use Rattle.geometry_replay.proofs.parts.Goals as goal
+
+pub loop-left-init : goal.loop-left-init
+loop-left-init c = tt
+
+pub loop-left-preserved : goal.loop-left-preserved
+loop-left-preserved c = tt
+
+pub returns : goal.returns
+returns c = tt

@@ -1,0 +1,20 @@
+-- `lifting::lanes_left` meets its contract. Assumes nothing.
+use Prim.Native.Nat.{◌-◌}
+use native.Mathlib.Omega.{arith}
+use lib.ListN.{length}
+use mathlib.Core.Logic.{⊎_elim}
+use Rattle.lifting.proofs.OneLaws.{Sifted, sifted_start, sifted_end, sifted_more, sifted_less}
+use borrow.Author.Rules.{rules}
+use Rattle.lifting.proofs.lanes_left.Goals as goal
+
+pub loop-i-init : goal.loop-i-init
+loop-i-init c = sifted_start _ _ _ (omega arith)
+
+pub bounds-entries-count : goal.bounds-entries-count
+bounds-entries-count c = omega (arith, c.loop-i.invariant.few, c.loop-i.invariant.room)
+
+pub loop-i-preserved : goal.loop-i-preserved
+loop-i-preserved c = ⊎_elim (λ w. rw (w.1, w.2) (sifted_more _ _ _ _ _ c.loop-i.invariant (search rules) c.loop-i-test.true _ c.member.ensures w.true)) (λ w. rw (w.1, w.2) (sifted_less _ _ _ _ _ c.loop-i.invariant (search rules) c.loop-i-test.true _ c.member.ensures w.false)) c.if-not-member.branch
+
+pub returns : goal.returns
+returns c = sifted_end _ _ _ _ _ c.loop-i.invariant (search rules) c.loop-i-test.false

@@ -1,0 +1,14 @@
+-- `light_store::rule_stored` meets its contract. Assumes nothing.
+use native.Mathlib.Omega.{arith}
+use Rattle.light_store.proofs.StoreLaws.{rule_none, rule_some}
+use borrow.Author.Rules.{rules}
+use Rattle.light_store.proofs.rule_stored.Goals as goal
+
+pub returns-then-l : goal.returns-then-l
+returns-then-l c = rule_none _ c.args.l _ c.if-l.true
+
+pub push_rule-requires : goal.push_rule-requires
+push_rule-requires c = (c.requires.sized, c.requires.free c.if-l.false, c.requires.next c.if-l.false, omega arith, omega arith, c.requires.few c.if-l.false, omega arith)
+
+pub returns : goal.returns
+returns c = rule_some _ c.args.l _ _ _ c.if-l.false c.one_if.ensures c.push_rule.ensures

@@ -1,0 +1,9 @@
+-- `lighting::housings::housing_at` meets its contract. Assumes nothing.
+use Rattle.geometry.specs.Point.{perp, scale2}
+use Rattle.edit.specs.Light.{housing_at}
+use borrow.Author.Rules.{rules}
+use Rattle.lighting.proofs.housings.housing_at.Goals as goal
+
+pub returns : goal.returns
+unfolding housing_at
+returns c = rw (c.scale2-side.ensures, c.perp.ensures)

@@ -1,0 +1,25 @@
+-- `lighting::plan::end_line` meets its contract. Assumes nothing.
+use mathlib.Core.Path.{◌≡◌}
+use native.Mathlib.Omega.{arith}
+use lib.ListN.{length}
+use Rattle.place.proofs.LineLaws.{part_long}
+use Rattle.lighting.proofs.PlanLaws.{end_missing, end_refused, end_placed}
+use borrow.Author.Rules.{rules}
+use Rattle.lighting.proofs.plan.end_line.Goals as goal
+
+pub returns-then-not-center : goal.returns-then-not-center
+returns-then-not-center c = end_missing _ c.args.lanes.now c.args.center c.requires.1 _ c.if-not-center.true c.refused_line.ensures
+
+pub slice_bounds-part-end : goal.slice_bounds-part-end
+slice_bounds-part-end c = part_long _ _ (omega (arith, c.requires.1.room.few, c.requires.1.room.long))
+
+pub returns-in-Refused : goal.returns-in-Refused
+returns-in-Refused c = end_refused _ c.args.lanes.now c.args.center c.requires.1 c.if-not-center.false _ c.length.ensures _ c.cross_section.ensures _ _ c.in-Refused.is c.refused_line-in-Refused.ensures
+
+pub returns-in-At : goal.returns-in-At
+returns-in-At c = let long-across : length c.across.result.coords ≡ 192 = search rules in
+    let measured = c.before.before.before.before.before in
+    let there = measured.before.before.before.before.before in
+    let start = there.before.before.before.before.before in
+    end_placed _ start.args.lanes.now start.args.center start.requires.1 there.if1.false _ measured.length.ensures _ c.cross_section.ensures _ _ _
+    c.in-At.is c.across.ensures (long-across)

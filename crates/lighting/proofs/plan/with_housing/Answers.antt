@@ -1,0 +1,10 @@
+-- `lighting::plan::with_housing` meets its contract. Assumes nothing.
+use Rattle.lighting.proofs.PlanLaws.{anchored_refused, anchored_fine}
+use borrow.Author.Rules.{rules}
+use Rattle.lighting.proofs.plan.with_housing.Goals as goal
+
+pub returns-in-Refused : goal.returns-in-Refused
+returns-in-Refused c = anchored_refused c.args.center c.args.plan c.args.a _ _ _ c.in-Refused.is c.refused_plan.ensures
+
+pub returns : goal.returns
+returns c = anchored_fine c.args.center c.args.plan c.args.a _ c.housing_for-h.result c.in_default.is c.housing_for-h.ensures c.requires.1

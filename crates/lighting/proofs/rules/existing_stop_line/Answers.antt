@@ -1,0 +1,26 @@
+-- `lighting::rules::existing_stop_line` meets its contract. Assumes nothing.
+use Prim.Native.Nat.{◌-◌}
+use mathlib.Core.Path.{◌≡◌}
+use native.Mathlib.Omega.{arith}
+use Rattle.store.specs.Layout.{count_of}
+use Rattle.lighting.proofs.RuleLaws.{Lineless, lineless_start, lineless_end, lineless_found, lineless_next}
+use borrow.Author.Rules.{rules}
+use Rattle.lighting.proofs.rules.existing_stop_line.Goals as goal
+
+pub loop-i-init : goal.loop-i-init
+loop-i-init c = (c.count-n.ensures, lineless_start _ _ _ c.count-n.ensures)
+
+pub line_on-u-requires : goal.line_on-u-requires
+line_on-u-requires c = (c.requires, omega (arith, c.loop-i.invariant.0, c.loop-i-test.true))
+
+pub returns-in-At : goal.returns-in-At
+returns-in-At c = lineless_found _ _ _ _ c.loop-i.invariant.1 c.loop-i-test.true _ c.line_on-u.ensures _ c.in-At.is
+
+pub loop-i-smaller : goal.loop-i-smaller
+loop-i-smaller c = omega (arith, c.loop-i-test.true)
+
+pub loop-i-preserved : goal.loop-i-preserved
+loop-i-preserved c = (c.loop-i.invariant.0, lineless_next _ _ _ _ c.loop-i.invariant.1 c.loop-i-test.true _ c.line_on-u.ensures c.in_default.is)
+
+pub returns : goal.returns
+returns c = lineless_end _ _ _ _ c.loop-i.invariant.1 c.loop-i-test.false

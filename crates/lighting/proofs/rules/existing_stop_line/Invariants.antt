@@ -1,0 +1,14 @@
+-- `lighting::rules::existing_stop_line` meets its contract. Assumes nothing.
+use Prim.Native.Nat.{◌-◌}
+use mathlib.Core.Path.{◌≡◌}
+use native.Mathlib.Omega.{arith}
+use Rattle.store.specs.Layout.{count_of}
+use Rattle.lighting.proofs.RuleLaws.{Lineless, lineless_start, lineless_end, lineless_found, lineless_next}
+use borrow.Author.Rules.{rules}
+use Rattle.lighting.proofs.rules.existing_stop_line.Given as goal
+
+abbrev pub invariant-loop-i : goal.invariant-loop-i
+invariant-loop-i l = (l.n ≡ count_of l.words 5) × Lineless l.words l.lane l.n l.i
+
+abbrev pub decreases-loop-i : goal.decreases-loop-i
+decreases-loop-i l = l.n - l.i

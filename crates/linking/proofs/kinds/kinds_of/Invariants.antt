@@ -1,0 +1,11 @@
+-- `linking::kinds::kinds_of` meets its contract. Assumes nothing.
+use native.Mathlib.Omega.{arith}
+use Rattle.linking.proofs.KindLaws.{Reading, reading_start, reading_next, reading_end}
+use borrow.Author.Rules.{rules}
+use Rattle.linking.proofs.kinds.kinds_of.Given as goal
+
+abbrev pub invariant-loop-i : goal.invariant-loop-i
+invariant-loop-i l = Reading l.words l.signals l.kinds l.i
+
+abbrev pub decreases-loop-i : goal.decreases-loop-i
+decreases-loop-i l = l.i

@@ -1,0 +1,13 @@
+-- `linking::light::check_light` meets its contract. Assumes nothing.
+use Rattle.linking.proofs.LightLaws.{light_dark, light_missing, light_kinds}
+use borrow.Author.Rules.{rules}
+use Rattle.linking.proofs.light.check_light.Goals as goal
+
+pub returns-then-signals-eq0 : goal.returns-then-signals-eq0
+returns-then-signals-eq0 c = light_dark _ _ _ _ _ c.if-signals-eq0.true
+
+pub returns-in-Missing : goal.returns-in-Missing
+returns-in-Missing c = light_missing _ _ _ _ _ c.if-signals-eq0.false _ c.kinds_of-k.ensures _ c.in-Missing.is
+
+pub returns-in-Kinds : goal.returns-in-Kinds
+returns-in-Kinds c = light_kinds _ _ _ _ _ c.if-signals-eq0.false _ c.kinds_of-k.ensures _ _ c.in-Kinds.is _ c.check_kinds.ensures

@@ -1,0 +1,13 @@
+use Prim.Native.Nat.{◌-◌}
+use borrow.Author.Rules.{rules}
+use Rattle.loading.proofs.LoadLaws as L
+use Rattle.fields.proofs.read_word.Reads as read-word-reads
+use Rattle.loading.proofs.load_row.Reads as load-row-reads
+use Rattle.store.proofs.layout.limit.Reads as limit-reads
+use Rattle.loading.proofs.load_table.Given as goal
+
+abbrev pub invariant-loop-i : goal.invariant-loop-i
+invariant-loop-i l = L.Filling l.s l.k l.initial.words l.initial.coords l.initial.q l.n l.words l.coords l.q l.i
+
+abbrev pub decreases-loop-i : goal.decreases-loop-i
+decreases-loop-i l = l.n - l.i

@@ -1,0 +1,7 @@
+use Rattle.map.specs.Access.{index_in}
+use borrow.Author.Rules.{rules}
+use Rattle.map.proofs.lookup.holds.Goals as goal
+
+pub returns : goal.returns
+unfolding index_in
+returns c = rw (c.find.ensures, c.count.ensures)

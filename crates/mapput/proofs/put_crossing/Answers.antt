@@ -1,0 +1,23 @@
+use Rattle.mapput.proofs.RecordLaws as L
+use borrow.Author.Rules.{rules}
+use Rattle.putfields.proofs.put_numbers.Reads as put-numbers-reads
+use Rattle.putting.proofs.put_number.Reads as put-number-reads
+use Rattle.mapput.proofs.put_crossing.Goals as goal
+
+pub bounds-words-2 : goal.bounds-words-2
+bounds-words-2 c = search (rules, L.putting-crossing)
+
+pub put_number-lines-requires : goal.put_number-lines-requires
+put_number-lines-requires c = search (rules, L.putting-crossing)
+
+pub bounds-words-75 : goal.bounds-words-75
+bounds-words-75 c = search (rules, L.putting-crossing)
+
+pub put_numbers-requires : goal.put_numbers-requires
+put_numbers-requires c = search (rules, L.putting-crossing)
+
+pub shape_of-out : goal.shape_of-out
+shape_of-out c = search (rules, L.putting-crossing)
+
+pub returns : goal.returns
+returns c = search (rules, L.putting-crossing)

@@ -1,0 +1,26 @@
+use Rattle.mapput.proofs.RecordLaws as L
+use borrow.Author.Rules.{rules}
+use Rattle.putfields.proofs.put_numbers.Reads as put-numbers-reads
+use Rattle.putfields.proofs.put_option_number.Reads as put-option-number-reads
+use Rattle.mapput.proofs.put_light.Goals as goal
+
+pub bounds-words-41 : goal.bounds-words-41
+bounds-words-41 c = search (rules, L.putting-light)
+
+pub put_numbers-line-requires : goal.put_numbers-line-requires
+put_numbers-line-requires c = search (rules, L.putting-light)
+
+pub bounds-words-3 : goal.bounds-words-3
+bounds-words-3 c = search (rules, L.putting-light)
+
+pub bounds-words-4 : goal.bounds-words-4
+bounds-words-4 c = search (rules, L.putting-light)
+
+pub put_option_number-requires : goal.put_option_number-requires
+put_option_number-requires c = search (rules, L.putting-light)
+
+pub shape_of-out : goal.shape_of-out
+shape_of-out c = search (rules, L.putting-light)
+
+pub returns : goal.returns
+returns c = search (rules, L.putting-light)

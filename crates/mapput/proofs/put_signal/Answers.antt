@@ -1,0 +1,43 @@
+use Rattle.mapput.proofs.RecordLaws as L
+use borrow.Author.Rules.{rules}
+use Rattle.putfields.proofs.put_bulbs.Reads as put-bulbs-reads
+use Rattle.putfields.proofs.put_line.Reads as put-line-reads
+use Rattle.putfields.proofs.put_option_height.Reads as put-option-height-reads
+use Rattle.putting.proofs.put_number.Reads as put-number-reads
+use Rattle.mapput.proofs.put_signal.Goals as goal
+
+pub bounds-words-0 : goal.bounds-words-0
+bounds-words-0 c = search (rules, L.putting-signal)
+
+pub put_number-kind-requires : goal.put_number-kind-requires
+put_number-kind-requires c = search (rules, L.putting-signal)
+
+pub bounds-words-1 : goal.bounds-words-1
+bounds-words-1 c = search (rules, L.putting-signal)
+
+pub put_number-geometry-requires : goal.put_number-geometry-requires
+put_number-geometry-requires c = search (rules, L.putting-signal)
+
+pub bounds-words-2 : goal.bounds-words-2
+bounds-words-2 c = search (rules, L.putting-signal)
+
+pub put_line-height-requires : goal.put_line-height-requires
+put_line-height-requires c = search (rules, L.putting-signal)
+
+pub bounds-words-3 : goal.bounds-words-3
+bounds-words-3 c = search (rules, L.putting-signal)
+
+pub put_option_height-bulbs-requires : goal.put_option_height-bulbs-requires
+put_option_height-bulbs-requires c = search (rules, L.putting-signal)
+
+pub bounds-words-4 : goal.bounds-words-4
+bounds-words-4 c = search (rules, L.putting-signal)
+
+pub put_bulbs-requires : goal.put_bulbs-requires
+put_bulbs-requires c = search (rules, L.putting-signal)
+
+pub shape_of-out : goal.shape_of-out
+shape_of-out c = search (rules, L.putting-signal)
+
+pub returns : goal.returns
+returns c = search (rules, L.putting-signal)

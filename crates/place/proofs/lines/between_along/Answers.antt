@@ -1,0 +1,36 @@
+-- `place::lines::between_along` meets its contract. Assumes nothing.
+use mathlib.Core.Path.{◌≡◌}
+use lib.ListN.{length}
+use Rattle.place.proofs.LineLaws.{along_no_left, along_no_right, boundary_word, boundary_points, boundary_part, stands_along, along_made}
+use borrow.Author.Rules.{rules}
+use Rattle.place.proofs.lines.between_along.Goals as goal
+
+pub returns-in_default : goal.returns-in_default
+returns-in_default c = along_no_left _ _ _ _ _ c.absent.ensures _ c.find.ensures c.in_default.is
+
+pub returns-in_default-find : goal.returns-in_default-find
+returns-in_default-find c = along_no_right _ _ _ _ _ c.absent-in_default-find.ensures _ c.find-2.ensures c.in_default-find.is
+
+pub word-requires : goal.word-requires
+word-requires c = boundary_word _ _ c.requires _ _ _ c.find.ensures c.in-At.is
+
+pub word-requires-2 : goal.word-requires-2
+word-requires-2 c = boundary_word _ _ c.requires _ _ _ c.find-2.ensures c.in-At-find.is
+
+pub points-a-requires : goal.points-a-requires
+points-a-requires c = boundary_points _ _ c.requires _ _ _ c.find.ensures c.in-At.is _ _ c.word.ensures c.index-n.ensures
+
+pub points-b-requires : goal.points-b-requires
+points-b-requires c = boundary_points _ _ c.requires _ _ _ c.find-2.ensures c.in-At-find.is _ _ c.word-2.ensures c.index-m.ensures
+
+pub centerline-c-requires : goal.centerline-c-requires
+centerline-c-requires c = (
+  boundary_part _ _ c.requires _ _ _ c.find.ensures c.in-At.is _ _ c.word.ensures c.index-n.ensures _ c.points-a.ensures,
+  boundary_part _ _ c.requires _ _ _ c.find-2.ensures c.in-At-find.is _ _ c.word-2.ensures c.index-m.ensures _ c.points-b.ensures,
+)
+
+pub returns : goal.returns
+returns c = let long : length c.centerline-c.result.coords ≡ 192 = search rules in
+    along_made _ _ _ _ _ _ _ (stands_along _ _ c.requires _ _ _ c.find.ensures c.in-At.is _ _ c.word.ensures c.index-n.ensures _ c.points-a.ensures)
+    (stands_along _ _ c.requires _ _ _ c.find-2.ensures c.in-At-find.is _ _ c.word-2.ensures c.index-m.ensures _ c.points-b.ensures)
+    c.centerline-c.ensures (long)

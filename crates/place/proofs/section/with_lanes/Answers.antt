@@ -1,0 +1,27 @@
+-- `place::section::with_lanes` meets its contract. Assumes nothing.
+use Prim.Native.Nat.{◌-◌}
+use lib.ListN.{length}
+use native.Mathlib.Omega.{arith}
+use Rattle.map.specs.Tables.{map_of}
+use Rattle.place.specs.Values.{ends_of}
+use Rattle.place.proofs.SectionLaws.{Laning, laning_start, laning_end, laning_missing, laning_next}
+use borrow.Author.Rules.{rules}
+use Rattle.place.proofs.section.with_lanes.Goals as goal
+
+pub loop-i-init : goal.loop-i-init
+loop-i-init c = laning_start _ _ _ _
+
+pub with_lane-requires : goal.with_lane-requires
+with_lane-requires c = c.requires
+
+pub returns-in_default : goal.returns-in_default
+returns-in_default c = laning_missing _ _ _ _ _ _ c.loop-i.invariant c.loop-i-test.true _ c.with_lane.ensures c.in_default.is
+
+pub loop-i-smaller : goal.loop-i-smaller
+loop-i-smaller c = omega (arith, c.loop-i-test.true)
+
+pub loop-i-preserved : goal.loop-i-preserved
+loop-i-preserved c = laning_next _ _ _ _ _ _ c.loop-i.invariant c.loop-i-test.true _ c.with_lane.ensures _ c.in-Ends.is
+
+pub returns : goal.returns
+returns c = laning_end _ _ _ _ _ _ c.loop-i.invariant c.loop-i-test.false

@@ -1,0 +1,23 @@
+-- `polyline::direction::forward` meets its contract. The invariant: no segment from start to i has a direction. Assumes nothing.
+use Rattle.polyline.proofs.Lists.{first_here, first_past, first_end}
+use Rattle.geometry.specs.Polyline.{polyline_of, segment_direction}
+use Rattle.geometry.specs.Maybe.{maybe_point2}
+use Rattle.rows.specs.Lists.{first_from}
+use lib.ListN.{length}
+use native.Mathlib.Omega.{arith}
+use mathlib.Core.Path.{◌≡◌, refl, sym, ap, ◌∙◌}
+use Prim.Native.Nat.{◌-◌, ◌/◌, ◌≤◌}
+use borrow.Author.Rules.{rules}
+use Rattle.polyline.proofs.direction.forward.Goals as goal
+
+pub loop-i-init : goal.loop-i-init
+loop-i-init c = (omega arith, refl)
+
+pub returns-in-At : goal.returns-in-At
+returns-in-At c = sym (c.loop-i.invariant.1 ∙ first_here _ _ _ _ c.loop-i-test.true (sym c.segment_direction-u.ensures ∙ ap maybe_point2 c.in-At.is))
+
+pub loop-i-preserved : goal.loop-i-preserved
+loop-i-preserved c = (omega arith, c.loop-i.invariant.1 ∙ first_past _ _ _ c.loop-i-test.true (sym c.segment_direction-u.ensures ∙ ap maybe_point2 c.in_default.is))
+
+pub returns : goal.returns
+returns c = sym (c.loop-i.invariant.1 ∙ first_end _ _ _ c.loop-i-test.false)

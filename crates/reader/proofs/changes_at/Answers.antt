@@ -1,0 +1,8 @@
+use Rattle.reader.proofs.ReaderLaws as L
+use borrow.Author.Rules.{rules}
+use Rattle.files.proofs.read_changes.Reads as read-changes-reads
+use Rattle.reader.proofs.begin.Reads as begin-reads
+use Rattle.reader.proofs.changes_at.Goals as goal
+
+pub returns : goal.returns
+returns c = L.changes_read_lem c.args.bytes.now c.args.at c.begin-from.result c.begin-from.ensures.1 c.read_changes.ensures

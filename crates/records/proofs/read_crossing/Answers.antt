@@ -1,0 +1,17 @@
+use borrow.Author.Rules.{rules}
+use Rattle.records.proofs.RuleLaws as L
+use Rattle.fields.proofs.read_numbers.Reads as read-numbers-reads
+use Rattle.fields.proofs.read_word.Reads as read-word-reads
+use Rattle.records.proofs.read_crossing.Goals as goal
+
+pub read_word-lines-requires : goal.read_word-lines-requires
+read_word-lines-requires c = search (rules, L.reading-parts)
+
+pub read_numbers-requires : goal.read_numbers-requires
+read_numbers-requires c = search (rules, L.reading-parts)
+
+pub shape_of-words : goal.shape_of-words
+shape_of-words c = search (rules, L.reading-parts)
+
+pub returns : goal.returns
+returns c = search (rules, L.reading-parts)

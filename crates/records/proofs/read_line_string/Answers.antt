@@ -1,0 +1,20 @@
+use borrow.Author.Rules.{rules}
+use Rattle.records.proofs.RecordLaws as L
+use Rattle.fields.proofs.read_line.Reads as read-line-reads
+use Rattle.fields.proofs.read_word.Reads as read-word-reads
+use Rattle.records.proofs.read_line_string.Goals as goal
+
+pub read_word-geometry-requires : goal.read_word-geometry-requires
+read_word-geometry-requires c = search (rules, L.reading-line-string)
+
+pub read_line-requires : goal.read_line-requires
+read_line-requires c = search (rules, L.reading-line-string)
+
+pub shape_of-words : goal.shape_of-words
+shape_of-words c = search (rules, L.reading-line-string)
+
+pub shape_of-coords : goal.shape_of-coords
+shape_of-coords c = search (rules, L.reading-line-string)
+
+pub returns : goal.returns
+returns c = search (rules, L.reading-line-string)

@@ -1,0 +1,37 @@
+use native.Mathlib.Omega.{arith}
+use borrow.Author.Rules.{rules}
+use Rattle.records.proofs.RecordLaws as L
+use Rattle.fields.proofs.read_bulbs.Reads as read-bulbs-reads
+use Rattle.fields.proofs.read_line.Reads as read-line-reads
+use Rattle.fields.proofs.read_option_height.Reads as read-option-height-reads
+use Rattle.fields.proofs.read_word.Reads as read-word-reads
+use Rattle.records.proofs.read_signal.Goals as goal
+
+pub read_word-kind-requires : goal.read_word-kind-requires
+read_word-kind-requires c = search (rules, L.reading-signal)
+
+pub read_word-geometry-requires : goal.read_word-geometry-requires
+read_word-geometry-requires c = search (rules, L.reading-signal)
+
+pub read_line-height-requires : goal.read_line-height-requires
+read_line-height-requires c = search (rules, L.reading-signal)
+
+pub read_option_height-bulbs-requires : goal.read_option_height-bulbs-requires
+read_option_height-bulbs-requires c = search (rules, L.reading-signal)
+
+pub read_bulbs-requires : goal.read_bulbs-requires
+read_bulbs-requires c = let pre = c.requires in
+    let a = c.read_word-kind.ensures in
+    let b = c.read_word-geometry.ensures in
+    let l = c.read_line-height.ensures in
+    let h = c.read_option_height-bulbs.ensures in
+    (omega (arith, pre.0, a.words.long, b.words.long, l.words.long, h.words.long), omega (arith, pre.1, l.coords.long, h.coords.long))
+
+pub shape_of-words : goal.shape_of-words
+shape_of-words c = search (rules, L.reading-signal)
+
+pub shape_of-coords : goal.shape_of-coords
+shape_of-coords c = search (rules, L.reading-signal)
+
+pub returns : goal.returns
+returns c = search (rules, L.reading-signal)

@@ -1,0 +1,24 @@
+-- `root::whole_root` meets its contract, by `proofs/Turns.antt`. The measure is how many turns are to come. Assumes nothing.
+use native.Mathlib.Omega.{arith}
+use Rattle.root.proofs.Turns.{Looped, start, asked, again, root_found}
+use borrow.Author.Rules.{rules}
+use Rattle.root.proofs.turn.Reads as turn-reads
+use Rattle.root.proofs.whole_root.Goals as goal
+
+pub loop-turns-init : goal.loop-turns-init
+loop-turns-init c = start c.args.m c.requires.0 c.requires.1
+
+pub overflow_shr-turns : goal.overflow_shr-turns
+overflow_shr-turns c = omega (arith, c.loop-turns.invariant.few)
+
+pub overflow_add-turns : goal.overflow_add-turns
+overflow_add-turns c = omega (arith, asked c.loop-turns.invariant (omega arith))
+
+pub turn-t-requires : goal.turn-t-requires
+turn-t-requires c = asked c.loop-turns.invariant (omega arith)
+
+pub loop-turns-preserved : goal.loop-turns-preserved
+loop-turns-preserved c = again c.loop-turns.invariant (omega arith) c.turn-t.ensures (omega arith)
+
+pub returns : goal.returns
+returns c = root_found c.args.m c.loop-turns.invariant (omega arith)

@@ -1,0 +1,14 @@
+-- `row_tests::right_of_way_ok` meets its contract. Assumes nothing.
+use borrow.Author.Tests.{lt-leb, le-leb}
+use native.Mathlib.Omega.{arith}
+use borrow.Author.Rules.{rules}
+use Rattle.row_tests.proofs.right_of_way_ok.Goals as goal
+
+pub returns-then-words-at-gt16 : goal.returns-then-words-at-gt16
+returns-then-words-at-gt16 c = rw (lt-leb _ _ c.if-words-at-gt16.true)
+
+pub returns-then-words-at-gt16-2 : goal.returns-then-words-at-gt16-2
+returns-then-words-at-gt16-2 c = rw (le-leb _ _ c.if-words-at-gt16.false, lt-leb _ _ c.if-words-at-gt16-2.true)
+
+pub returns : goal.returns
+returns c = rw (le-leb _ _ c.if-words-at-gt16.false, le-leb _ _ c.if-words-at-gt16-2.false)

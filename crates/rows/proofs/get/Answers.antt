@@ -1,0 +1,10 @@
+-- `rows::get` meets its contract. Assumes nothing.
+use mathlib.Core.Path.{◌∙◌}
+use native.Mathlib.Omega.{arith}
+use Rattle.rows.proofs.RowLaws.{got}
+use borrow.Author.Rules.{rules}
+use Rattle.rows.proofs.get.Goals as goal
+
+pub returns : goal.returns
+returns c = let a = c.args in
+    c.put.ensures ∙ got a.out.now a.t.now a.at (omega arith)

@@ -1,0 +1,19 @@
+-- `runs::check_opened` meets its contract. Assumes nothing.
+use Rattle.runs.proofs.OpenedLaws.{tested_words, tested_coords, tested_done, tested_sets, tested_file}
+use borrow.Author.Rules.{rules}
+use Rattle.runs.proofs.check_opened.Goals as goal
+
+pub returns-then-words-ne-WORDS : goal.returns-then-words-ne-WORDS
+returns-then-words-ne-WORDS c = search (rules, tested_words)
+
+pub returns-then-coords-ne-COORDS : goal.returns-then-coords-ne-COORDS
+returns-then-coords-ne-COORDS c = search (rules, tested_coords)
+
+pub returns-in-Done : goal.returns-in-Done
+returns-in-Done c = search (rules, tested_done)
+
+pub returns-then-is_map_file : goal.returns-then-is_map_file
+returns-then-is_map_file c = search (rules, tested_sets)
+
+pub returns-else-is_map_file : goal.returns-else-is_map_file
+returns-else-is_map_file c = search (rules, tested_file)

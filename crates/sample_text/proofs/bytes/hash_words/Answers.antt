@@ -1,0 +1,12 @@
+-- `sample_text::bytes::hash_words` is safe and ends: fewer words are left. Assumes nothing.
+use Rattle.std.proofs.Common.{◌-◌, length, arith, rules}
+use Rattle.sample_text.proofs.bytes.hash_words.Goals as goal
+
+pub loop-n-init : goal.loop-n-init
+loop-n-init c = tt
+
+pub loop-n-preserved : goal.loop-n-preserved
+loop-n-preserved c = tt
+
+pub returns : goal.returns
+returns c = tt

@@ -1,0 +1,15 @@
+-- `sample_text::number_at` is safe and ends: the text's end comes nearer. Assumes nothing.
+use Rattle.std.proofs.Common.{◌-◌, length, arith, rules}
+use Rattle.sample_text.proofs.number_at.Goals as goal
+
+pub loop-i-init : goal.loop-i-init
+loop-i-init c = tt
+
+pub returns-then-b-le32 : goal.returns-then-b-le32
+returns-then-b-le32 c = tt
+
+pub loop-i-preserved : goal.loop-i-preserved
+loop-i-preserved c = tt
+
+pub returns : goal.returns
+returns c = tt

@@ -1,0 +1,12 @@
+-- `set_tests::warnings_ok` meets its contract. Assumes nothing.
+use Rattle.changes.specs.Layout.{from_of, warnings_at}
+use Rattle.changes.specs.ChangeFile.{warnings}
+use Rattle.set_tests.proofs.SetLaws as L
+use borrow.Author.Rules.{rules}
+use Rattle.set_tests.proofs.warnings_ok.Given as goal
+
+abbrev pub invariant-loop-left : goal.invariant-loop-left
+invariant-loop-left l = L.Passing (warnings.fits (warnings_at l.t (from_of 3) l.n)) l.t l.at l.left
+
+abbrev pub decreases-loop-left : goal.decreases-loop-left
+decreases-loop-left l = l.left

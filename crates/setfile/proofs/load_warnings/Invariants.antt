@@ -1,0 +1,12 @@
+use Prim.Native.Nat.{◌-◌}
+use borrow.Author.Rules.{rules}
+use Rattle.setfile.proofs.LoadLaws as L
+use Rattle.fields.proofs.read_word.Reads as read-word-reads
+use Rattle.setfile.proofs.load_warning.Reads as load-warning-reads
+use Rattle.setfile.proofs.load_warnings.Given as goal
+
+abbrev pub invariant-loop-i : goal.invariant-loop-i
+invariant-loop-i l = L.Warned l.s l.initial.t l.initial.q l.n l.t l.q l.i
+
+abbrev pub decreases-loop-i : goal.decreases-loop-i
+decreases-loop-i l = l.n - l.i

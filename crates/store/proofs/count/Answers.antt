@@ -1,0 +1,7 @@
+use Rattle.store.specs.Layout.{count_of}
+use borrow.Author.Rules.{rules}
+use Rattle.store.proofs.count.Goals as goal
+
+pub returns : goal.returns
+unfolding count_of
+returns c = c.index.ensures

@@ -1,0 +1,8 @@
+use mathlib.Core.Path.{refl}
+use Rattle.store.specs.Layout.{next_of}
+use borrow.Author.Rules.{rules}
+use Rattle.store.proofs.next.Goals as goal
+
+pub returns : goal.returns
+unfolding next_of
+returns c = refl

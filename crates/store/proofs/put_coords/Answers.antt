@@ -1,0 +1,22 @@
+use Prim.Native.Nat.{◌+◌}
+use native.Mathlib.Omega.{arith}
+use Rattle.store.specs.Layout.{put_coords}
+use Rattle.store.proofs.StoreLaws.{coords_end}
+use borrow.Author.Rules.{rules}
+use Rattle.store.proofs.put_coords.Goals as goal
+
+pub coord_place-requires : goal.coord_place-requires
+coord_place-requires c = let s = c.before.before.before in
+    (s.requires.1, omega arith)
+
+pub overflow_add-coord_place : goal.overflow_add-coord_place
+overflow_add-coord_place c = let s = c.before.before.before.before in
+    omega (arith, c.coord_place.ensures, s.requires.3, coords_end s.args.k s.args.i s.requires.1 s.requires.2)
+
+pub put_f64-requires : goal.put_f64-requires
+put_f64-requires c = let s = c.before.before.before.before in
+    omega (arith, c.coord_place.ensures, s.requires.3, s.requires.0, coords_end s.args.k s.args.i s.requires.1 s.requires.2)
+
+pub returns : goal.returns
+unfolding put_coords
+returns c = rw (c.put_f64.ensures, c.coord_place.ensures)

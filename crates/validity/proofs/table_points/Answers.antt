@@ -1,0 +1,32 @@
+-- `validity::table_points` meets its contract. Assumes nothing.
+use Rattle.validity.proofs.Sums.{sum_none, sum_next, table_is}
+use Rattle.row_tests.specs.Flat.{row_points}
+use Prim.Native.Nat.{◌+◌, ◌-◌, ◌*◌, ◌≤◌}
+use mathlib.Core.Path.{◌≡◌, refl, sym, ap, ◌∙◌}
+use Rattle.rows.specs.Lists.{list_to, total}
+use Rattle.store.specs.Layout.{count_of}
+use Rattle.store.proofs.StoreLaws.{limit_small}
+use native.Mathlib.Omega.{arith}
+use borrow.Author.Rules.{rules}
+use Rattle.validity.proofs.table_points.Goals as goal
+
+pub loop-i-init : goal.loop-i-init
+loop-i-init c = (omega arith, c.count-n.ensures, omega arith, sum_none (row_points c.args.k _))
+
+pub row_points-sum-requires : goal.row_points-sum-requires
+row_points-sum-requires c = let s = c.before.before.before.before in (s.requires.0, s.requires.1, omega (arith, c.loop-i.invariant.1), s.requires.2.few s.args.k _ s.requires.1 (omega (arith, c.loop-i.invariant.1)))
+
+pub overflow_add-sum : goal.overflow_add-sum
+overflow_add-sum c = let s = c.before.before.before.before.before in omega (arith, c.row_points-sum.ensures, s.requires.2.few s.args.k c.loop-i.i s.requires.1 (omega (arith, c.loop-i.invariant.1)), s.requires.0.counts s.args.k s.requires.1, limit_small s.args.k, c.loop-i.invariant.1)
+
+pub loop-i-preserved : goal.loop-i-preserved
+loop-i-preserved c = let s = c.before.before.before.before.before in (
+  omega arith,
+  c.loop-i.invariant.1,
+  omega (arith, c.row_points-sum.ensures, s.requires.2.few s.args.k c.loop-i.i s.requires.1 (omega (arith, c.loop-i.invariant.1))),
+  rw (c.loop-i.invariant.3, c.row_points-sum.ensures) (sum_next (row_points s.args.k _) _),
+)
+
+pub returns : goal.returns
+returns c = let e : c.loop-i.i ≡ c.count-n.result = omega arith in
+    table_is _ _ _ _ c.count-n.ensures (rw e at c.loop-i.invariant.3)

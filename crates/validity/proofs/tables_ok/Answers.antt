@@ -1,0 +1,24 @@
+-- `validity::tables_ok` meets its contract. Assumes nothing.
+use Rattle.row_tests.specs.Flat.{good_table, good_tables}
+use Prim.Native.Nat.{◌+◌, ◌-◌, ◌≤◌}
+use mathlib.Core.Path.{◌≡◌, refl, sym, ap, ◌∙◌}
+use Rattle.rows.specs.Lists.{every, list_to}
+use Rattle.rows.proofs.RowLaws.{every_next, every_stop, every_end}
+use Rattle.rows.proofs.Indexed.{tab, tab_step, tab_none, list_to_tab}
+use borrow.Author.Tests.{not-true, not-false}
+use native.Mathlib.Omega.{arith}
+use borrow.Author.Rules.{rules}
+use Rattle.validity.proofs.tables_ok.Goals as goal
+
+pub loop-k-init : goal.loop-k-init
+unfolding good_tables
+loop-k-init c = (omega arith, rw (list_to_tab (good_table _ _) 6))
+
+pub returns-then-not-table_ok : goal.returns-then-not-table_ok
+returns-then-not-table_ok c = every_stop (λ b. b) _ _ _ _ c.loop-k.invariant.1 (tab_step (good_table _ _) 6 _ c.loop-k-test.true) (sym c.table_ok.ensures ∙ not-true _ c.if-not-table_ok.true)
+
+pub loop-k-preserved : goal.loop-k-preserved
+loop-k-preserved c = (omega arith, every_next (λ b. b) _ _ _ _ c.loop-k.invariant.1 (tab_step (good_table _ _) 6 _ c.loop-k-test.true) (sym c.table_ok.ensures ∙ not-false _ c.if-not-table_ok.false))
+
+pub returns : goal.returns
+returns c = every_end (λ b. b) _ _ c.loop-k.invariant.1 (tab_none (good_table _ _) 6 _ c.loop-k-test.false)
