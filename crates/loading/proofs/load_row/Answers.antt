@@ -33,5 +33,4 @@ slice_bounds-read_record-end-2 c = let h = L.coord_row_fits _ _ _ _ c.requires.0
     omega (arith, c.requires.3)
 
 pub returns : goal.returns
-returns c = let s = c.before.before.before.before.before.before.before.before.before.before.before.before.before.before in
-    L.row_got _ _ _ _ _ _ _ _ _ _ _ _ _ s.requires.0 s.requires.1 s.requires.2 s.requires.3 c.place-a.ensures c.width.ensures c.coord_place-c.ensures c.coord_width.ensures c.read_record.ensures
+returns c = L.row_got _ _ _ _ _ _ _ _ _ _ _ _ _ c.requires.0 c.requires.1 c.requires.2 c.requires.3 c.place-a.ensures c.width.ensures c.coord_place-c.ensures c.coord_width.ensures c.read_record.ensures

@@ -20,12 +20,7 @@ pub read_option_height-bulbs-requires : goal.read_option_height-bulbs-requires
 read_option_height-bulbs-requires c = search (rules, L.reading-signal)
 
 pub read_bulbs-requires : goal.read_bulbs-requires
-read_bulbs-requires c = let pre = c.requires in
-    let a = c.read_word-kind.ensures in
-    let b = c.read_word-geometry.ensures in
-    let l = c.read_line-height.ensures in
-    let h = c.read_option_height-bulbs.ensures in
-    (omega (arith, pre.0, a.words.long, b.words.long, l.words.long, h.words.long), omega (arith, pre.1, l.coords.long, h.coords.long))
+read_bulbs-requires c = (omega (arith, c.requires.0, c.read_word-kind.ensures.words.long, c.read_word-geometry.ensures.words.long, c.read_line-height.ensures.words.long, c.read_option_height-bulbs.ensures.words.long), omega (arith, c.requires.1, c.read_line-height.ensures.coords.long, c.read_option_height-bulbs.ensures.coords.long))
 
 pub shape_of-words : goal.shape_of-words
 shape_of-words c = search (rules, L.reading-signal)

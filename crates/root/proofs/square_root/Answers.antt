@@ -19,25 +19,20 @@ pub float_to_bits-x : goal.float_to_bits-x
 float_to_bits-x c = not_nan c.args.x c.if-x.false
 
 pub returns-then-r-eq9221120237041090560 : goal.returns-then-r-eq9221120237041090560
-returns-then-r-eq9221120237041090560 c = let held : T (fits binary64 c.args.x) = subst T (sym c.well-formed.0.1) tt in
+returns-then-r-eq9221120237041090560 c = let held : T (fits binary64 c.args.x) = subst T (sym c.well_formed.0.1) tt in
     let bits : c.square_root_bits-r.result ≡ to_bits binary64 (square_root c.args.x) = c.square_root_bits-r.ensures ∙ ap (λ (v : Float). to_bits binary64 (square_root v)) (of_bits-to_bits binary64 c.args.x (held)) in
-    let value : of_bits binary64 c.square_root_bits-r.result ≡ square_root c.args.x = let x = c.args.x in
-    ap (of_bits binary64) (bits) ∙ of_bits-to_bits binary64 (square_root x) (square_root_fits x (held)) in
+    let value : of_bits binary64 c.square_root_bits-r.result ≡ square_root c.args.x = ap (of_bits binary64) (bits) ∙ of_bits-to_bits binary64 (square_root c.args.x) (square_root_fits c.args.x (held)) in
     zero_by_zero ∙ sym (sym (value) ∙ ap (of_bits binary64) c.if-r-eq9221120237041090560.true ∙ nan_pattern)
 
 pub float_from_bits-result : goal.float_from_bits-result
-float_from_bits-result c = let held : T (fits binary64 c.args.x) = subst T (sym c.well-formed.0.1) tt in
+float_from_bits-result c = let held : T (fits binary64 c.args.x) = subst T (sym c.well_formed.0.1) tt in
     let bits : c.square_root_bits-r.result ≡ to_bits binary64 (square_root c.args.x) = c.square_root_bits-r.ensures ∙ ap (λ (v : Float). to_bits binary64 (square_root v)) (of_bits-to_bits binary64 c.args.x (held)) in
-    let value : of_bits binary64 c.square_root_bits-r.result ≡ square_root c.args.x = let x = c.args.x in
-    ap (of_bits binary64) (bits) ∙ of_bits-to_bits binary64 (square_root x) (square_root_fits x (held)) in
-    let r = c.square_root_bits-r.result in
-    let x = c.args.x in
-    subst (λ (b : Bool). T (not b)) (sym (nan_bits_is binary64 r ∙ ap is_nan (value)))
-    (not_nan_bits (square_root x) (λ e. c.if-r-eq9221120237041090560.false (bits ∙ e)))
+    let value : of_bits binary64 c.square_root_bits-r.result ≡ square_root c.args.x = ap (of_bits binary64) (bits) ∙ of_bits-to_bits binary64 (square_root c.args.x) (square_root_fits c.args.x (held)) in
+    subst (λ (b : Bool). T (not b)) (sym (nan_bits_is binary64 c.square_root_bits-r.result ∙ ap is_nan (value)))
+    (not_nan_bits (square_root c.args.x) (λ e. c.if-r-eq9221120237041090560.false (bits ∙ e)))
 
 pub returns : goal.returns
-returns c = let held : T (fits binary64 c.args.x) = subst T (sym c.well-formed.0.1) tt in
+returns c = let held : T (fits binary64 c.args.x) = subst T (sym c.well_formed.0.1) tt in
     let bits : c.square_root_bits-r.result ≡ to_bits binary64 (square_root c.args.x) = c.square_root_bits-r.ensures ∙ ap (λ (v : Float). to_bits binary64 (square_root v)) (of_bits-to_bits binary64 c.args.x (held)) in
-    let value : of_bits binary64 c.square_root_bits-r.result ≡ square_root c.args.x = let x = c.args.x in
-    ap (of_bits binary64) (bits) ∙ of_bits-to_bits binary64 (square_root x) (square_root_fits x (held)) in
+    let value : of_bits binary64 c.square_root_bits-r.result ≡ square_root c.args.x = ap (of_bits binary64) (bits) ∙ of_bits-to_bits binary64 (square_root c.args.x) (square_root_fits c.args.x (held)) in
     value

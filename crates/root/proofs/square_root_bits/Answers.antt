@@ -44,14 +44,12 @@ root_pattern-requires c = let up : Raised c.args.b (count_leading_zeros 64 c.arg
 
 pub returns-then-field-eq0 : goal.returns-then-field-eq0
 returns-then-field-eq0 c = let up : Raised c.args.b (count_leading_zeros 64 c.args.b) = raised c.args.b (omega arith) (omega arith) in
-    let b = c.args.b in
     let u = up in
-    let z = count_leading_zeros 64 b - 11 in
-    let fit : b * 2 ^ z % 2 ^ 64 ≡ b * 2 ^ z = omega (arith, u.high) in
+    let z = count_leading_zeros 64 c.args.b - 11 in
+    let fit : c.args.b * 2 ^ z % 2 ^ 64 ≡ c.args.b * 2 ^ z = omega (arith, u.high) in
     c.root_pattern.ensures
     ∙ ap (λ (x : ℕ). to_bits binary64 (root_of (x * 2 ^ (1074 - z)))) fit
-    ∙ sym (ap (to_bits binary64) (root_low b z (omega arith) (omega arith) (omega (arith, u.few))))
+    ∙ sym (ap (to_bits binary64) (root_low c.args.b z (omega arith) (omega arith) (omega (arith, u.few))))
 
 pub returns-else-field-eq0 : goal.returns-else-field-eq0
-returns-else-field-eq0 c = let b = c.args.b in
-    c.root_pattern-else-field-eq0.ensures ∙ sym (ap (to_bits binary64) (root_mid b (omega arith) (omega arith)))
+returns-else-field-eq0 c = c.root_pattern-else-field-eq0.ensures ∙ sym (ap (to_bits binary64) (root_mid c.args.b (omega arith) (omega arith)))

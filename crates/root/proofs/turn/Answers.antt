@@ -7,10 +7,7 @@ use Rattle.root.proofs.lengthen.Reads as lengthen-reads
 use Rattle.root.proofs.turn.Goals as goal
 
 pub lengthen-next-requires : goal.lengthen-next-requires
-lengthen-next-requires c = let t = c.args.t in
-    asks t.root t.rest t.left t.count c.args.count c.requires (omega arith)
+lengthen-next-requires c = asks c.args.t.root c.args.t.rest c.args.t.left c.args.t.count c.args.count c.requires (omega arith)
 
 pub returns : goal.returns
-returns c = let t = c.args.t in
-    let s = c.lengthen-next.result in
-    (turned t.root t.rest t.left t.count c.args.count c.requires (omega arith) s.root s.rest c.lengthen-next.ensures, refl)
+returns c = (turned c.args.t.root c.args.t.rest c.args.t.left c.args.t.count c.args.count c.requires (omega arith) c.lengthen-next.result.root c.lengthen-next.result.rest c.lengthen-next.ensures, refl)

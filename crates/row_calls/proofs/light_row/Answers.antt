@@ -7,12 +7,4 @@ pub part_at-points-requires : goal.part_at-points-requires
 part_at-points-requires c = search (rules, line_within_lem)
 
 pub returns : goal.returns
-returns c = let b₁ = c.before.before.before.before.before.before in
-    let b₂ = b₁.before.before in
-    let b₃ = b₂.before.before.before.before.before in
-    let b₄ = b₃.before.before.before.before in
-    let b₅ = b₄.before.before.before.before in
-    let b₆ = b₅.before.before.before in
-    let b₇ = b₆.before.before.before.before.before.before in
-    let b₈ = b₇.before.before.before.before.before in
-    light_step b₈.args.row.now b₈.args.reals.now _ b₆.light-pointed.ensures _ _ _ _ _ _ _ b₅.part_at.ensures b₄.part-at2.ensures b₃.part-at3.ensures _ _ _ b₂.signal-by.ensures
+returns c = light_step c.args.row.now c.args.reals.now _ c.light_pointed-pointed.ensures _ _ _ _ _ _ _ c.part_at-points.ensures c.part_at-housing.ensures c.part_at-lamps.ensures _ _ _ c.signal_by.ensures

@@ -16,12 +16,4 @@ pub part_at-given-requires : goal.part_at-given-requires
 part_at-given-requires c = search (rules, line_given)
 
 pub returns : goal.returns
-returns c = let b₁ = c.before.before.before.before.before.before in
-    let b₂ = b₁.before.before in
-    let b₃ = b₂.before.before.before.before.before.before in
-    let b₄ = b₃.before in
-    let b₅ = b₄.before.before.before.before in
-    let b₆ = b₅.before.before.before in
-    let b₇ = b₆.before.before.before in
-    let b₈ = b₇.before in
-    line_step _ _ _ _ b₈.line-within.ensures b₇.if1.false _ _ _ b₆.list_at.ensures b₅.measure-at.ensures b₄.part_at.ensures _ _ _ b₂.stop-line-by.ensures
+returns c = line_step _ _ _ _ c.line_within.ensures c.if-not-line_within.false _ _ _ c.list_at-lanes.ensures c.measure_at-measure.ensures c.part_at-given.ensures _ _ _ c.stop_line_by.ensures

@@ -16,11 +16,4 @@ pub list_at-lines-requires : goal.list_at-lines-requires
 list_at-lines-requires c = search (rules, links_lines)
 
 pub returns : goal.returns
-returns c = let b₁ = c.before.before.before.before.before.before in
-    let b₂ = b₁.before.before in
-    let b₃ = b₂.before.before.before.before.before.before in
-    let b₄ = b₃.before.before.before in
-    let b₅ = b₄.before.before.before in
-    let b₆ = b₅.before.before.before in
-    let b₇ = b₆.before in
-    links_step _ _ _ b₇.links-within.ensures b₆.if1.false _ _ _ b₅.list_at.ensures b₄.list-at2.ensures b₃.list-at3.ensures _ _ _ b₂.links-by.ensures
+returns c = links_step _ _ _ c.links_within.ensures c.if-not-links_within.false _ _ _ c.list_at-lanes.ensures c.list_at-crosswalks.ensures c.list_at-lines.ensures _ _ _ c.links_by.ensures

@@ -31,9 +31,7 @@ pub loop-i-init : goal.loop-i-init
 loop-i-init c = (omega arith, rw (add-zero, sub-zero))
 
 pub loop-i-preserved : goal.loop-i-preserved
-loop-i-preserved c = let i = c.loop-i.i in
-    let at = c.args.at in
-    let further : at + (i + 1) ≡ at + i + 1 = omega arith in
+loop-i-preserved c = let further : c.args.at + (c.loop-i.i + 1) ≡ c.args.at + c.loop-i.i + 1 = omega arith in
     (omega arith, rw further (taken _ _ _ _ c.loop-i.good _ _ c.loop-i.invariant.1 (cut_step _ _ _ _ nan (omega arith) (omega arith)) c.coord_ok.ensures c.both-good.ensures))
 
 pub returns : goal.returns

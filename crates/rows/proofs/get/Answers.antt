@@ -6,5 +6,4 @@ use borrow.Author.Rules.{rules}
 use Rattle.rows.proofs.get.Goals as goal
 
 pub returns : goal.returns
-returns c = let a = c.args in
-    c.put.ensures ∙ got a.out.now a.t.now a.at (omega arith)
+returns c = c.put.ensures ∙ got c.args.out.now c.args.t.now c.args.at (omega arith)

@@ -13,8 +13,7 @@ pub loop-j-init : goal.loop-j-init
 loop-j-init c = (omega arith, refl, pasted_none _ _ _)
 
 pub loop-j-preserved : goal.loop-j-preserved
-loop-j-preserved c = let i = c.loop-j.invariant in
-    (omega arith, simp length-set (omega arith), rw i.2 (pasted_more _ _ _ _ nan (omega arith) (omega arith)))
+loop-j-preserved c = (omega arith, simp length-set (omega arith), rw c.loop-j.invariant.2 (pasted_more _ _ _ _ nan (omega arith) (omega arith)))
 
 pub returns : goal.returns
 returns c = let e : c.loop-j.j ≡ length c.args.row.now = omega arith in

@@ -13,14 +13,10 @@ pub loop-j-init : goal.loop-j-init
 loop-j-init c = (omega arith, refl, pasted_none _ _ _)
 
 pub loop-j-preserved : goal.loop-j-preserved
-loop-j-preserved c = let i = c.loop-j.invariant in
-    let a = c.args in
-    let j = c.loop-j.j in
-    let t₀ = a.t.now in
-    let room : j < length (drop a.from t₀) = simp length-drop (omega arith) in
-    let got : get_or c.loop-j.t (a.from + j) 0 ≡ get_or (drop a.from t₀) j 0 =
-    rw i.2 (get_d_past _ _ _ _ _ 0 (omega arith) (omega arith) (omega arith) ∙ sym (get_or-drop a.from t₀ j 0)) in
-    (omega arith, simp length-set (omega arith), rw (got, i.2) (pasted_more _ _ _ _ 0 (omega arith) room))
+loop-j-preserved c = let room : c.loop-j.j < length (drop c.args.from c.args.t.now) = simp length-drop (omega arith) in
+    let got : get_or c.loop-j.t (c.args.from + c.loop-j.j) 0 ≡ get_or (drop c.args.from c.args.t.now) c.loop-j.j 0 =
+    rw c.loop-j.invariant.2 (get_d_past _ _ _ _ _ 0 (omega arith) (omega arith) (omega arith) ∙ sym (get_or-drop c.args.from c.args.t.now c.loop-j.j 0)) in
+    (omega arith, simp length-set (omega arith), rw (got, c.loop-j.invariant.2) (pasted_more _ _ _ _ 0 (omega arith) room))
 
 pub returns : goal.returns
 unfolding moved

@@ -6,22 +6,18 @@ use borrow.Author.Rules.{rules}
 use Rattle.store.proofs.drop_coords.Goals as goal
 
 pub coord_place-at-requires : goal.coord_place-at-requires
-coord_place-at-requires c = let s = c.before.before in
-    (s.requires.1, omega arith)
+coord_place-at-requires c = (c.requires.1, omega arith)
 
 pub overflow_add-at : goal.overflow_add-at
-overflow_add-at c = let s = c.before.before.before.before in
-    omega (arith, c.coord_place-at.ensures, c.coord_width-w.ensures, coords_end s.args.k s.args.j s.requires.1 (omega (arith, s.requires.2, s.requires.3)))
+overflow_add-at c = omega (arith, c.coord_place-at.ensures, c.coord_width-w.ensures, coords_end c.args.k c.args.j c.requires.1 (omega (arith, c.requires.2, c.requires.3)))
 
 pub overflow_mul-n : goal.overflow_mul-n
-overflow_mul-n c = let s = c.before.before.before.before in
-    rw c.coord_width-w.ensures
-    (omega (arith, s.requires.0, drop_coords_fits s.args.coords.now s.requires.0 s.args.k s.requires.1 s.args.n s.args.j s.requires.3 s.requires.2))
+overflow_mul-n c = rw c.coord_width-w.ensures
+    (omega (arith, c.requires.0, drop_coords_fits c.args.coords.now c.requires.0 c.args.k c.requires.1 c.args.n c.args.j c.requires.3 c.requires.2))
 
 pub shift_f64-requires : goal.shift_f64-requires
-shift_f64-requires c = let s = c.before.before.before.before in
-    rw (c.coord_place-at.ensures, c.coord_width-w.ensures)
-    (omega arith, drop_coords_fits s.args.coords.now s.requires.0 s.args.k s.requires.1 s.args.n s.args.j s.requires.3 s.requires.2)
+shift_f64-requires c = rw (c.coord_place-at.ensures, c.coord_width-w.ensures)
+    (omega arith, drop_coords_fits c.args.coords.now c.requires.0 c.args.k c.requires.1 c.args.n c.args.j c.requires.3 c.requires.2)
 
 pub returns : goal.returns
 unfolding drop_coords

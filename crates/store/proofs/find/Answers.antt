@@ -6,10 +6,8 @@ use borrow.Author.Rules.{rules}
 use Rattle.store.proofs.find.Goals as goal
 
 pub find-requires : goal.find-requires
-find-requires c = let s = c.before.before.before.before in
-    let k = s.args.k in
-    rw (c.width.ensures, c.base.ensures, c.count-n.ensures)
-    (wide k s.requires.1, omega (arith, s.requires.0.room, placed k _ s.requires.1 (s.requires.0.counts k s.requires.1)))
+find-requires c = rw (c.width.ensures, c.base.ensures, c.count-n.ensures)
+    (wide c.args.k c.requires.1, omega (arith, c.requires.0.room, placed c.args.k _ c.requires.1 (c.requires.0.counts c.args.k c.requires.1)))
 
 pub returns : goal.returns
 returns c = c.find.ensures ∙ rw (c.width.ensures, c.base.ensures, c.count-n.ensures)

@@ -6,16 +6,13 @@ use borrow.Author.Rules.{rules}
 use Rattle.store.proofs.put_part.Goals as goal
 
 pub place-requires : goal.place-requires
-place-requires c = let s = c.before.before.before in
-    (s.requires.1, omega (arith, s.requires.0.counts s.args.k s.requires.1))
+place-requires c = (c.requires.1, omega (arith, c.requires.0.counts c.args.k c.requires.1))
 
 pub overflow_add-place : goal.overflow_add-place
-overflow_add-place c = let s = c.before.before.before.before in
-    omega (arith, c.place.ensures, s.requires.3, row_ends s.args.k s.args.i s.requires.1 (omega (arith, s.requires.0.counts s.args.k s.requires.1)))
+overflow_add-place c = omega (arith, c.place.ensures, c.requires.3, row_ends c.args.k c.args.i c.requires.1 (omega (arith, c.requires.0.counts c.args.k c.requires.1)))
 
 pub put-requires : goal.put-requires
-put-requires c = let s = c.before.before.before.before in
-    omega (arith, c.place.ensures, s.requires.3, s.requires.0.room, row_ends s.args.k s.args.i s.requires.1 (omega (arith, s.requires.0.counts s.args.k s.requires.1)))
+put-requires c = omega (arith, c.place.ensures, c.requires.3, c.requires.0.room, row_ends c.args.k c.args.i c.requires.1 (omega (arith, c.requires.0.counts c.args.k c.requires.1)))
 
 pub returns : goal.returns
 unfolding put_part

@@ -12,12 +12,12 @@ pub loop-k-init : goal.loop-k-init
 loop-k-init c = (omega arith, omega arith, sum_none (table_points _))
 
 pub overflow_add-sum : goal.overflow_add-sum
-overflow_add-sum c = let s = c.before.before.before.before in omega (arith, c.table_points-sum.ensures, table_few s.args.words.now s.requires.0 s.requires.1 c.loop-k.k c.loop-k-test.true)
+overflow_add-sum c = omega (arith, c.table_points-sum.ensures, table_few c.args.words.now c.requires.0 c.requires.1 c.loop-k.k c.loop-k-test.true)
 
 pub loop-k-preserved : goal.loop-k-preserved
-loop-k-preserved c = let s = c.before.before.before.before in (
+loop-k-preserved c = (
   omega arith,
-  omega (arith, c.table_points-sum.ensures, table_few s.args.words.now s.requires.0 s.requires.1 c.loop-k.k c.loop-k-test.true),
+  omega (arith, c.table_points-sum.ensures, table_few c.args.words.now c.requires.0 c.requires.1 c.loop-k.k c.loop-k-test.true),
   rw (c.loop-k.invariant.2, c.table_points-sum.ensures) (sum_next (table_points _) _),
 )
 

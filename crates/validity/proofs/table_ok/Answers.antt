@@ -8,9 +8,8 @@ use borrow.Author.Rules.{rules}
 use Rattle.validity.proofs.table_ok.Goals as goal
 
 pub rising-requires : goal.rising-requires
-rising-requires c = let s = c.before.before.before.before.before.before in
-    rw (c.width.ensures, c.base.ensures, c.count-n.ensures)
-    (wide s.args.k s.requires.1, omega (arith, s.requires.0.words.room, placed s.args.k _ s.requires.1 (s.requires.0.words.counts s.args.k s.requires.1)))
+rising-requires c = rw (c.width.ensures, c.base.ensures, c.count-n.ensures)
+    (wide c.args.k c.requires.1, omega (arith, c.requires.0.words.room, placed c.args.k _ c.requires.1 (c.requires.0.words.counts c.args.k c.requires.1)))
 
 pub returns-then-not-rising : goal.returns-then-not-rising
 unfolding good_table good_order

@@ -14,17 +14,17 @@ pub loop-i-init : goal.loop-i-init
 loop-i-init c = (omega arith, c.count-n.ensures, omega arith, sum_none (row_points c.args.k _))
 
 pub row_points-sum-requires : goal.row_points-sum-requires
-row_points-sum-requires c = let s = c.before.before.before.before in (s.requires.0, s.requires.1, omega (arith, c.loop-i.invariant.1), s.requires.2.few s.args.k _ s.requires.1 (omega (arith, c.loop-i.invariant.1)))
+row_points-sum-requires c = (c.requires.0, c.requires.1, omega (arith, c.loop-i.invariant.1), c.requires.2.few c.args.k _ c.requires.1 (omega (arith, c.loop-i.invariant.1)))
 
 pub overflow_add-sum : goal.overflow_add-sum
-overflow_add-sum c = let s = c.before.before.before.before.before in omega (arith, c.row_points-sum.ensures, s.requires.2.few s.args.k c.loop-i.i s.requires.1 (omega (arith, c.loop-i.invariant.1)), s.requires.0.counts s.args.k s.requires.1, limit_small s.args.k, c.loop-i.invariant.1)
+overflow_add-sum c = omega (arith, c.row_points-sum.ensures, c.requires.2.few c.args.k c.loop-i.i c.requires.1 (omega (arith, c.loop-i.invariant.1)), c.requires.0.counts c.args.k c.requires.1, limit_small c.args.k, c.loop-i.invariant.1)
 
 pub loop-i-preserved : goal.loop-i-preserved
-loop-i-preserved c = let s = c.before.before.before.before.before in (
+loop-i-preserved c = (
   omega arith,
   c.loop-i.invariant.1,
-  omega (arith, c.row_points-sum.ensures, s.requires.2.few s.args.k c.loop-i.i s.requires.1 (omega (arith, c.loop-i.invariant.1))),
-  rw (c.loop-i.invariant.3, c.row_points-sum.ensures) (sum_next (row_points s.args.k _) _),
+  omega (arith, c.row_points-sum.ensures, c.requires.2.few c.args.k c.loop-i.i c.requires.1 (omega (arith, c.loop-i.invariant.1))),
+  rw (c.loop-i.invariant.3, c.row_points-sum.ensures) (sum_next (row_points c.args.k _) _),
 )
 
 pub returns : goal.returns

@@ -12,9 +12,7 @@ returns-then-cs-eq1 c = let e = length-points c.args.cs.now in
 
 pub returns-then-s : goal.returns-then-s
 returns-then-s c = let e = length-points c.args.cs.now in
-    let p = c.requires in
-    located_start _ _ (omega arith) (locate_start _ _ (omega (arith, p.0, c.if-cs-eq1.false)) c.if-s.true)
+    located_start _ _ (omega arith) (locate_start _ _ (omega (arith, c.requires.0, c.if-cs-eq1.false)) c.if-s.true)
 
 pub reaching_from-requires : goal.reaching_from-requires
-reaching_from-requires c = let p = c.requires in
-    (omega (arith, p.0, c.if-cs-eq1.false), p.1, p.2, p.3, p.4, c.if-s.false)
+reaching_from-requires c = (omega (arith, c.requires.0, c.if-cs-eq1.false), c.requires.1, c.requires.2, c.requires.3, c.requires.4, c.if-s.false)

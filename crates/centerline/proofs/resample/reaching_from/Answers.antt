@@ -14,20 +14,15 @@ pub loop-i-init : goal.loop-i-init
 loop-i-init c = (omega arith, c.requires.4)
 
 pub returns-then-reaches : goal.returns-then-reaches
-returns-then-reaches c = let s = c.before.before.before.before.before.before.before.before in
-    let e = length-points s.args.cs.now in
-    let l = c.loop-i in
-    located_here _ _ _ _ e s.requires.0 s.requires.5 l.invariant.1 _ _ _ c.loop-i-test.true (s.requires.3.station l.i (omega arith)) (s.requires.3.segment l.i (omega arith))
+returns-then-reaches c = let e = length-points c.args.cs.now in
+    located_here _ _ _ _ e c.requires.0 c.requires.5 c.loop-i.invariant.1 _ _ _ c.loop-i-test.true (c.requires.3.station c.loop-i.i (omega arith)) (c.requires.3.segment c.loop-i.i (omega arith))
     (sym c.reaches.ensures ∙ c.if-reaches.true) c.clamp.ensures
 
 pub loop-i-preserved : goal.loop-i-preserved
-loop-i-preserved c = let s = c.before.before.before.before.before.before.before in
-    let e = length-points s.args.cs.now in
-    let l = c.loop-i in
-    (omega arith, passed_next _ _ _ l.invariant.1 (reach_past _ _ _ _ _ (s.requires.3.station l.i (omega arith)) (s.requires.3.segment l.i (omega arith)) (sym c.reaches.ensures ∙ c.if-reaches.false)))
+loop-i-preserved c = let e = length-points c.args.cs.now in
+    (omega arith, passed_next _ _ _ c.loop-i.invariant.1 (reach_past _ _ _ _ _ (c.requires.3.station c.loop-i.i (omega arith)) (c.requires.3.segment c.loop-i.i (omega arith)) (sym c.reaches.ensures ∙ c.if-reaches.false)))
 
 pub returns : goal.returns
-returns c = let s = c.before.before.before in
-    let n = length s.args.cs.now / 3 in
+returns c = let n = length c.args.cs.now / 3 in
     let e : n - 1 - 1 ≡ n - 2 = omega arith in
-    rw e (located_end _ _ _ _ (length-points s.args.cs.now) s.requires.0 s.requires.5 c.loop-i.invariant.1 c.loop-i-test.false c.loop-i.invariant.0)
+    rw e (located_end _ _ _ _ (length-points c.args.cs.now) c.requires.0 c.requires.5 c.loop-i.invariant.1 c.loop-i-test.false c.loop-i.invariant.0)

@@ -22,27 +22,21 @@ pub int_to_float-s : goal.int_to_float-s
 int_to_float-s c = whole_fits _ (omega arith)
 
 pub locate_from-l-requires : goal.locate_from-l-requires
-locate_from-l-requires c = let p = c.requires in
-    let l = c.loop-i in
-    (p.0, p.1, resumed_within (polyline_of c.args.cs.now) _ _ _ _ c.resumed.ensures _ l.invariant.1, p.4, resumed_passed _ _ _ _ _ c.resumed.ensures l.invariant.2)
+locate_from-l-requires c = (c.requires.0, c.requires.1, resumed_within (polyline_of c.args.cs.now) _ _ _ _ c.resumed.ensures _ c.loop-i.invariant.1, c.requires.4, resumed_passed _ _ _ _ _ c.resumed.ensures c.loop-i.invariant.2)
 
 pub point_of-p-requires : goal.point_of-p-requires
 point_of-p-requires c = c.requires.0
 
 pub loop-i-preserved : goal.loop-i-preserved
-loop-i-preserved c = let s = c.before.before.before.before.before.before.before.before.before in
-    let l = c.loop-i in
-    let e = length-points s.args.cs.now in
-    let w = c.locate_from-l.ensures in (
+loop-i-preserved c = let e = length-points c.args.cs.now in
+    (
       omega arith,
-      omega (arith, w.within),
-      w.passed,
-      filled_next _ _ _ _ l.invariant.3 (omega arith) (resampled_at _ _ _ _ _ _ _ (total_is _ _ _ s.requires.4 e s.requires.0) refl w c.point_of-p.ensures),
+      omega (arith, c.locate_from-l.ensures.within),
+      c.locate_from-l.ensures.passed,
+      filled_next _ _ _ _ c.loop-i.invariant.3 (omega arith) (resampled_at _ _ _ _ _ _ _ (total_is _ _ _ c.requires.4 e c.requires.0) refl c.locate_from-l.ensures c.point_of-p.ensures),
     )
 
 pub returns : goal.returns
 unfolding points_of
-returns c = let s = c.before.before.before.before.before in
-    let cs = s.args.cs.now in
-    let e : c.loop-i.i ≡ s.args.count = omega arith in
-    (rw e at c.loop-i.invariant.3.made) ∙ resample_is (polyline_of cs) s.args.count s.args.count (omega (arith, length-points cs)) (omega arith)
+returns c = let e : c.loop-i.i ≡ c.args.count = omega arith in
+    (rw e at c.loop-i.invariant.3.made) ∙ resample_is (polyline_of c.args.cs.now) c.args.count c.args.count (omega (arith, length-points c.args.cs.now)) (omega arith)

@@ -18,6 +18,5 @@ loop-i-preserved c = (omega arith, filled_next _ _ _ _ c.loop-i.invariant.1 (ome
 
 pub returns : goal.returns
 unfolding points_of
-returns c = let cs = c.args.cs.now in
-    let e : c.loop-i.i ≡ length cs / 3 = omega arith in
-    (rw e at c.loop-i.invariant.1.made) ∙ reversed_is (polyline_of cs) (length cs / 3) (length-points cs)
+returns c = let e : c.loop-i.i ≡ length c.args.cs.now / 3 = omega arith in
+    (rw e at c.loop-i.invariant.1.made) ∙ reversed_is (polyline_of c.args.cs.now) (length c.args.cs.now / 3) (length-points c.args.cs.now)

@@ -12,9 +12,9 @@ pub float_to_bits-result : goal.float_to_bits-result
 float_to_bits-result c = no_nan c.args.x c.if-x.false
 
 pub float_from_bits-result : goal.float_from_bits-result
-float_from_bits-result c = let held : T (fits binary64 c.args.x) = subst T (sym c.well-formed.0.1) tt in
+float_from_bits-result c = let held : T (fits binary64 c.args.x) = subst T (sym c.well_formed.0.1) tt in
     no_nan_size c.args.x (held) c.if-x.false
 
 pub returns : goal.returns
-returns c = let held : T (fits binary64 c.args.x) = subst T (sym c.well-formed.0.1) tt in
+returns c = let held : T (fits binary64 c.args.x) = subst T (sym c.well_formed.0.1) tt in
     size_of c.args.x (held)

@@ -6,7 +6,7 @@ use mathlib.Core.Path.{sym, subst}
 use Rattle.geometry.proofs.double.is_finite.Goals as goal
 
 pub returns-then-infinity-x : goal.returns-then-infinity-x
-returns-then-infinity-x c = let held : T (fits binary64 c.args.x) = subst T (sym c.well-formed.0.1) tt in
+returns-then-infinity-x c = let held : T (fits binary64 c.args.x) = subst T (sym c.well_formed.0.1) tt in
     finite_between c.args.x (held) c.if-x-infinity.true c.if-infinity-x.true
 
 pub returns-else-infinity-x : goal.returns-else-infinity-x

@@ -16,28 +16,24 @@ use Rattle.geometry_calls.proofs.made.centerline.Goals as goal
 
 pub centerline-requires : goal.centerline-requires
 centerline-requires c = let test : tested c.count.result
-    ≡ check_count (coords_on_map c.args.left.now && coords_on_map c.args.right.now) (max (length (polyline_of c.args.left.now)) (length (polyline_of c.args.right.now))) = let s = c.before.before.before.before.before.before.before in
-    c.count.ensures
+    ≡ check_count (coords_on_map c.args.left.now && coords_on_map c.args.right.now) (max (length (polyline_of c.args.left.now)) (length (polyline_of c.args.right.now))) = c.count.ensures
     ∙ ap₂ check_count (c.both-ok.ensures ∙ ap₂ ◌&&◌ c.coords_on_map.ensures c.coords_on_map-2.ensures)
-    (c.larger.ensures ∙ ap₂ max (sym (length-points s.args.left.now)) (sym (length-points s.args.right.now))) in
-    let s = c.before.before.before.before.before.before.before.before.before in
+    (c.larger.ensures ∙ ap₂ max (sym (length-points c.args.left.now)) (sym (length-points c.args.right.now))) in
     let f = count_few _ _ (sym (ap tested c.in-Passed.is) ∙ test) in
-    (omega (arith, f, length-points s.args.left.now), omega (arith, f, length-points s.args.right.now))
+    (omega (arith, f, length-points c.args.left.now), omega (arith, f, length-points c.args.right.now))
 
 pub returns-in-Refused : goal.returns-in-Refused
 unfolding centerline_call
 returns-in-Refused c = let test : tested c.count.result
-    ≡ check_count (coords_on_map c.args.left.now && coords_on_map c.args.right.now) (max (length (polyline_of c.args.left.now)) (length (polyline_of c.args.right.now))) = let s = c.before.before.before.before.before.before.before in
-    c.count.ensures
+    ≡ check_count (coords_on_map c.args.left.now && coords_on_map c.args.right.now) (max (length (polyline_of c.args.left.now)) (length (polyline_of c.args.right.now))) = c.count.ensures
     ∙ ap₂ check_count (c.both-ok.ensures ∙ ap₂ ◌&&◌ c.coords_on_map.ensures c.coords_on_map-2.ensures)
-    (c.larger.ensures ∙ ap₂ max (sym (length-points s.args.left.now)) (sym (length-points s.args.right.now))) in
+    (c.larger.ensures ∙ ap₂ max (sym (length-points c.args.left.now)) (sym (length-points c.args.right.now))) in
     count_stands _ _ _ c.in-Refused.r (sym (ap tested c.in-Refused.is) ∙ test)
 
 pub returns-in-Passed : goal.returns-in-Passed
 unfolding centerline_call
 returns-in-Passed c = let test : tested c.count.result
-    ≡ check_count (coords_on_map c.args.left.now && coords_on_map c.args.right.now) (max (length (polyline_of c.args.left.now)) (length (polyline_of c.args.right.now))) = let s = c.before.before.before.before.before.before.before in
-    c.count.ensures
+    ≡ check_count (coords_on_map c.args.left.now && coords_on_map c.args.right.now) (max (length (polyline_of c.args.left.now)) (length (polyline_of c.args.right.now))) = c.count.ensures
     ∙ ap₂ check_count (c.both-ok.ensures ∙ ap₂ ◌&&◌ c.coords_on_map.ensures c.coords_on_map-2.ensures)
-    (c.larger.ensures ∙ ap₂ max (sym (length-points s.args.left.now)) (sym (length-points s.args.right.now))) in
+    (c.larger.ensures ∙ ap₂ max (sym (length-points c.args.left.now)) (sym (length-points c.args.right.now))) in
     count_passes _ _ _ _ (sym (ap tested c.in-Passed.is) ∙ test) (ap done c.centerline.ensures)

@@ -16,9 +16,8 @@ use Rattle.geometry_calls.proofs.made.resample_count.Goals as goal
 pub resample_count-requires : goal.resample_count-requires
 resample_count-requires c = let test : tested c.count.result ≡ check_count (coords_on_map c.args.cs.now) (max c.args.n (length (polyline_of c.args.cs.now))) = c.count.ensures
     ∙ ap₂ check_count c.coords_on_map.ensures (c.larger.ensures ∙ ap (λ (k : ℕ). max c.args.n k) (sym (length-points c.args.cs.now))) in
-    let s = c.before.before.before.before.before.before in
     let f = count_few _ _ (sym (ap tested c.in-Passed.is) ∙ test) in
-    (omega (arith, f, length-points s.args.cs.now), omega (arith, f))
+    (omega (arith, f, length-points c.args.cs.now), omega (arith, f))
 
 pub returns-in-Refused : goal.returns-in-Refused
 unfolding resample_count_call

@@ -14,5 +14,4 @@ returns-in-Refused c = rw c.in-Refused.is record { code = c.number.ensures; left
 
 pub returns-else-l-eq0 : goal.returns-else-l-eq0
 unfolding line_option
-returns-else-l-eq0 c = let d = c.before.before in
-    rw (d.before.before.before.enum_told.given.1, ne_eqb _ _ d.if1.false) record { code = refl; left = refl }
+returns-else-l-eq0 c = rw (c.in-Passed.is, ne_eqb _ _ c.if-l-eq0.false) record { code = refl; left = refl }

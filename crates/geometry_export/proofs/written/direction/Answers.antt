@@ -10,5 +10,4 @@ pub returns-in-Nothing : goal.returns-in-Nothing
 returns-in-Nothing c = rw (c.in-Found.is, c.in-Nothing.is) record { code = refl; left = refl }
 
 pub returns-in-At : goal.returns-in-At
-returns-in-At c = let d = c.before.before in
-    rw (d.before.before.before.a2.given.1, d.m.given.1) record { code = refl; left = refl }
+returns-in-At c = rw (c.in-Found.is, c.in-At.is) record { code = refl; left = refl }

@@ -18,8 +18,5 @@ returns-in-Refused c = end_refused _ c.args.lanes.now c.args.center c.requires.1
 
 pub returns-in-At : goal.returns-in-At
 returns-in-At c = let long-across : length c.across.result.coords ≡ 192 = search rules in
-    let measured = c.before.before.before.before.before in
-    let there = measured.before.before.before.before.before in
-    let start = there.before.before.before.before.before in
-    end_placed _ start.args.lanes.now start.args.center start.requires.1 there.if1.false _ measured.length.ensures _ c.cross_section.ensures _ _ _
+    end_placed _ c.args.lanes.now c.args.center c.requires.1 c.if-not-center.false _ c.length.ensures _ c.cross_section.ensures _ _ _
     c.in-At.is c.across.ensures (long-across)

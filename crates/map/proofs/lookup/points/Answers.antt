@@ -7,21 +7,20 @@ use borrow.Author.Rules.{rules}
 use Rattle.map.proofs.lookup.points.Goals as goal
 
 pub overflow_add-at : goal.overflow_add-at
-overflow_add-at c = let s = c.before.before in omega (arith, c.coord_place.ensures, coords_end s.args.k s.args.i s.requires.1 s.requires.2, s.requires.3)
+overflow_add-at c = omega (arith, c.coord_place.ensures, coords_end c.args.k c.args.i c.requires.1 c.requires.2, c.requires.3)
 
 pub overflow_mul-e : goal.overflow_mul-e
-overflow_mul-e c = let s = c.before.before in omega (arith, c.coord_place.ensures, coords_end s.args.k s.args.i s.requires.1 s.requires.2, s.requires.3)
+overflow_mul-e c = omega (arith, c.coord_place.ensures, coords_end c.args.k c.args.i c.requires.1 c.requires.2, c.requires.3)
 
 pub overflow_add-e : goal.overflow_add-e
-overflow_add-e c = let s = c.before.before in omega (arith, c.coord_place.ensures, coords_end s.args.k s.args.i s.requires.1 s.requires.2, s.requires.3)
+overflow_add-e c = omega (arith, c.coord_place.ensures, coords_end c.args.k c.args.i c.requires.1 c.requires.2, c.requires.3)
 
 pub offset_bounds-coords-at : goal.offset_bounds-coords-at
-offset_bounds-coords-at c = let s = c.before.before in omega (arith, c.coord_place.ensures, coords_end s.args.k s.args.i s.requires.1 s.requires.2, s.requires.3, s.requires.0)
+offset_bounds-coords-at c = omega (arith, c.coord_place.ensures, coords_end c.args.k c.args.i c.requires.1 c.requires.2, c.requires.3, c.requires.0)
 
 pub slice_bounds-result-end : goal.slice_bounds-result-end
-slice_bounds-result-end c = let s = c.before.before in omega (arith, c.coord_place.ensures, coords_end s.args.k s.args.i s.requires.1 s.requires.2, s.requires.3, s.requires.0)
+slice_bounds-result-end c = omega (arith, c.coord_place.ensures, coords_end c.args.k c.args.i c.requires.1 c.requires.2, c.requires.3, c.requires.0)
 
 pub returns : goal.returns
-returns c = let s = c.before.before.before in
-    points_part s.args.coords.now s.requires.0 s.args.k s.args.i s.args.o s.args.n _ s.requires.1 s.requires.2 s.requires.3
-    (ap (λ (p : ℕ). p + s.args.o) c.coord_place.ensures)
+returns c = points_part c.args.coords.now c.requires.0 c.args.k c.args.i c.args.o c.args.n _ c.requires.1 c.requires.2 c.requires.3
+    (ap (λ (p : ℕ). p + c.args.o) c.coord_place.ensures)

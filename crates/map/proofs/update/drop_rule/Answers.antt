@@ -4,10 +4,8 @@ use borrow.Author.Rules.{rules}
 use Rattle.map.proofs.update.drop_rule.Goals as goal
 
 pub drop_coords-requires : goal.drop_coords-requires
-drop_coords-requires c = let s = c.before.before.before.before.before in
-    (s.requires.0.coords, omega arith, omega (arith, c.count-n.ensures), omega (arith, c.count-n.ensures, s.requires.0.words.counts 5 (omega arith)))
+drop_coords-requires c = (c.requires.0.coords, omega arith, omega (arith, c.count-n.ensures), omega (arith, c.count-n.ensures, c.requires.0.words.counts 5 (omega arith)))
 
 pub returns : goal.returns
-returns c = let s = c.before.before.before.before.before.before.before.before.before.before.before.before in
-    rw (c.drop_row.ensures, c.drop_coords.ensures)
-    (rule_dropped s.args.words.now s.args.coords.now s.requires.0 s.args.j c.count-n.result s.requires.1 c.count-n.ensures)
+returns c = rw (c.drop_row.ensures, c.drop_coords.ensures)
+    (rule_dropped c.args.words.now c.args.coords.now c.requires.0 c.args.j c.count-n.result c.requires.1 c.count-n.ensures)

@@ -6,18 +6,14 @@ use borrow.Author.Rules.{rules}
 use Rattle.map.proofs.update.push_line.Goals as goal
 
 pub put_coords-requires : goal.put_coords-requires
-put_coords-requires c = let s = c.before.before.before.before.before.before.before.before in
-    (s.requires.0.coords, omega arith, omega (arith, line_limit, c.count-n.ensures), omega (arith, line_room))
+put_coords-requires c = (c.requires.0.coords, omega arith, omega (arith, line_limit, c.count-n.ensures), omega (arith, line_room))
 
 pub push_row-requires : goal.push_row-requires
-push_row-requires c = let s = c.before.before.before.before.before.before.before.before.before.before.before.before.before in
-    (s.requires.0.words, omega arith, omega (arith, line_limit, s.requires.1), sym line_wide)
+push_row-requires c = (c.requires.0.words, omega arith, omega (arith, line_limit, c.requires.1), sym line_wide)
 
 pub set_next-requires : goal.set_next-requires
-set_next-requires c = let s = c.before.before.before.before.before.before.before.before.before.before.before.before.before.before.before.before.before in
-    push_sized s.args.words.now s.requires.0.words 2 (omega arith) _ (sym line_wide) (omega (arith, line_limit, s.requires.1)) _ c.push_row.ensures
+set_next-requires c = push_sized c.args.words.now c.requires.0.words 2 (omega arith) _ (sym line_wide) (omega (arith, line_limit, c.requires.1)) _ c.push_row.ensures
 
 pub returns : goal.returns
-returns c = let s = c.before.before.before.before.before.before.before.before.before.before.before.before.before.before.before.before.before.before.before.before in
-    rw (c.set_next.ensures, c.push_row.ensures, c.put_coords.ensures)
-    (line_pushed s.args.words.now s.args.coords.now s.requires.0 s.args.points.now c.fresh-number.result c.count-n.result s.requires.1 s.requires.3 c.count-n.ensures c.fresh-number.ensures)
+returns c = rw (c.set_next.ensures, c.push_row.ensures, c.put_coords.ensures)
+    (line_pushed c.args.words.now c.args.coords.now c.requires.0 c.args.points.now c.fresh-number.result c.count-n.result c.requires.1 c.requires.3 c.count-n.ensures c.fresh-number.ensures)

@@ -6,21 +6,18 @@ use borrow.Author.Rules.{rules}
 use Rattle.map.proofs.update.push_rule.Goals as goal
 
 pub push_row-requires : goal.push_row-requires
-push_row-requires c = let s = c.before.before.before.before.before.before.before.before.before.before.before.before.before in (
-  s.requires.0,
+push_row-requires c = (
+  c.requires.0,
   omega arith,
-  omega (arith, rule_limit, s.requires.1),
-  row_long_is _ _ _ _ _ refl s.requires.5 s.requires.6 c.put.ensures c.put-2.ensures,
+  omega (arith, rule_limit, c.requires.1),
+  row_long_is _ _ _ _ _ refl c.requires.5 c.requires.6 c.put.ensures c.put-2.ensures,
 )
 
 pub set_next-requires : goal.set_next-requires
-set_next-requires c = let s = c.before.before.before.before.before.before.before.before.before.before.before.before.before.before.before.before.before in
-    push_sized s.args.words.now s.requires.0 5 (omega arith) _
-    (row_long_is _ _ _ _ _ refl s.requires.5 s.requires.6 c.put.ensures c.put-2.ensures)
-    (omega (arith, rule_limit, s.requires.1)) _ c.push_row.ensures
+set_next-requires c = push_sized c.args.words.now c.requires.0 5 (omega arith) _
+    (row_long_is _ _ _ _ _ refl c.requires.5 c.requires.6 c.put.ensures c.put-2.ensures)
+    (omega (arith, rule_limit, c.requires.1)) _ c.push_row.ensures
 
 pub returns : goal.returns
-returns c = let s = c.before.before.before.before.before.before.before.before.before.before.before.before.before.before.before.before.before.before.before.before in
-    let f = c.before.before.before.before.before.before.before.before.before.before.before.before.before.before.before in
-    rule_pushed_is _ _ _ _ _ s.args.words.now _ _ refl s.requires.5 s.requires.6 c.put.ensures c.put-2.ensures c.push_row.ensures
-    f.fresh.result s.args.kind s.args.value s.args.flag s.args.line c.set_next.ensures refl refl refl refl refl refl refl refl refl s.requires.0 s.requires.1 f.fresh.ensures s.requires.3 s.requires.4
+returns c = rule_pushed_is _ _ _ _ _ c.args.words.now _ _ refl c.requires.5 c.requires.6 c.put.ensures c.put-2.ensures c.push_row.ensures
+    c.fresh-number.result c.args.kind c.args.value c.args.flag c.args.line c.set_next.ensures refl refl refl refl refl refl refl refl refl c.requires.0 c.requires.1 c.fresh-number.ensures c.requires.3 c.requires.4

@@ -7,12 +7,10 @@ use borrow.Author.Rules.{rules}
 use Rattle.store.proofs.layout.place.Goals as goal
 
 pub overflow_mul-result : goal.overflow_mul-result
-overflow_mul-result c = let a = c.args in
-    omega (arith, ap (λ (w : ℕ). a.i * w) c.width.ensures, placed a.k a.i c.requires.0 c.requires.1)
+overflow_mul-result c = omega (arith, ap (λ (w : ℕ). c.args.i * w) c.width.ensures, placed c.args.k c.args.i c.requires.0 c.requires.1)
 
 pub overflow_add-result : goal.overflow_add-result
-overflow_add-result c = let a = c.args in
-    omega (arith, ap (λ (w : ℕ). a.i * w) c.width.ensures, placed a.k a.i c.requires.0 c.requires.1, c.base.ensures)
+overflow_add-result c = omega (arith, ap (λ (w : ℕ). c.args.i * w) c.width.ensures, placed c.args.k c.args.i c.requires.0 c.requires.1, c.base.ensures)
 
 pub returns : goal.returns
 unfolding place_of
