@@ -8,4 +8,4 @@ use borrow.Author.Rules.{rules}
 use Rattle.boundary.proofs.bulb_arrow_of.Goals as goal
 
 pub returns-in_default : goal.returns-in_default
-returns-in_default c = last_case 8 bulb_arrow_of DownRight (λ j. refl) c.args.n (further 7 _ (further 6 _ (further 5 _ (further 4 _ (further 3 _ (further 2 _ (further 1 _ (further 0 _ (le_any _) c.in_default.rest.0.0.0.0.0.0.0.1) c.in_default.rest.0.0.0.0.0.0.1) c.in_default.rest.0.0.0.0.0.1) c.in_default.rest.0.0.0.0.1) c.in_default.rest.0.0.0.1) c.in_default.rest.0.0.1) c.in_default.rest.0.1) c.in_default.rest.1)
+returns-in_default c = last_case 8 bulb_arrow_of DownRight (λ j. refl) c.args.n (further 7 _ (further 6 _ (further 5 _ (further 4 _ (further 3 _ (further 2 _ (further 1 _ (further 0 _ (le_any _) c.in_default.in_default-own.rest.0.0.0.0.0.0.0.1) c.in_default.in_default-own.rest.0.0.0.0.0.0.1) c.in_default.in_default-own.rest.0.0.0.0.0.1) c.in_default.in_default-own.rest.0.0.0.0.1) c.in_default.in_default-own.rest.0.0.0.1) c.in_default.in_default-own.rest.0.0.1) c.in_default.in_default-own.rest.0.1) c.in_default.in_default-own.rest.1)

@@ -8,4 +8,4 @@ use borrow.Author.Rules.{rules}
 use Rattle.boundary.proofs.bulb_color_of.Goals as goal
 
 pub returns-in_default : goal.returns-in_default
-returns-in_default c = last_case 3 bulb_color_of White (λ j. refl) c.args.n (omega (arith, c.in_default.rest.0.0.1, c.in_default.rest.0.1, c.in_default.rest.1))
+returns-in_default c = last_case 3 bulb_color_of White (λ j. refl) c.args.n (omega (arith, c.in_default.in_default-own.rest.0.0.1, c.in_default.in_default-own.rest.0.1, c.in_default.in_default-own.rest.1))

@@ -13,4 +13,4 @@ pub returns-in-1 : goal.returns-in-1
 returns-in-1 c = rw c.in-1.is
 
 pub returns-in_default : goal.returns-in_default
-returns-in_default c = last_case 2 (λ i. placement_of i c.args.x) Given (λ j. refl) c.args.n (omega (arith, c.in_default.rest.0.1, c.in_default.rest.1))
+returns-in_default c = last_case 2 (λ i. placement_of i c.args.x) Given (λ j. refl) c.args.n (omega (arith, c.in_default.in_default-own.rest.0.1, c.in_default.in_default-own.rest.1))

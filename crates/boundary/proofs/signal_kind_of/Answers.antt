@@ -8,4 +8,4 @@ use borrow.Author.Rules.{rules}
 use Rattle.boundary.proofs.signal_kind_of.Goals as goal
 
 pub returns-in_default : goal.returns-in_default
-returns-in_default c = last_case 1 signal_kind_of Pedestrian (λ j. refl) c.args.n (omega (arith, c.in_default.rest.1))
+returns-in_default c = last_case 1 signal_kind_of Pedestrian (λ j. refl) c.args.n (omega (arith, c.in_default.in_default-own.rest.1))

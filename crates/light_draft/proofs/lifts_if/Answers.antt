@@ -5,7 +5,7 @@ use borrow.Author.Rules.{rules}
 use Rattle.light_draft.proofs.lifts_if.Goals as goal
 
 pub returns-then-not-b : goal.returns-then-not-b
-returns-then-not-b c = lifts_none _ _ _ _ _ c.requires.1 (not-true _ c.if-not-b.true)
+returns-then-not-b c = lifts_none _ _ _ _ _ c.requires.1 c.if-not-b.true
 
 pub returns : goal.returns
-returns c = lifts_some _ _ _ _ _ _ (not-false _ c.if-not-b.false) c.note_lifts.ensures
+returns c = lifts_some _ _ _ _ _ _ c.if-not-b.false c.note_lifts.ensures

@@ -5,10 +5,10 @@ use borrow.Author.Rules.{rules}
 use Rattle.light_draft.proofs.push_if.Goals as goal
 
 pub returns-then-not-b : goal.returns-then-not-b
-returns-then-not-b c = push_none _ _ _ _ c.requires (not-true _ c.if-not-b.true)
+returns-then-not-b c = push_none _ _ _ _ c.requires c.if-not-b.true
 
 pub push-requires : goal.push-requires
 push-requires c = push_room _ _ c.requires
 
 pub returns : goal.returns
-returns c = push_some _ _ _ _ _ c.requires (not-false _ c.if-not-b.false) c.push.ensures
+returns c = push_some _ _ _ _ _ c.requires c.if-not-b.false c.push.ensures

@@ -7,13 +7,13 @@ use borrow.Author.Rules.{rules}
 use Rattle.light_store.proofs.line_stored.Goals as goal
 
 pub returns-then-not-drawn : goal.returns-then-not-drawn
-returns-then-not-drawn c = line_none _ _ _ c.args.line c.requires (not-true _ c.if-not-drawn.true)
+returns-then-not-drawn c = line_none _ _ _ c.args.line c.requires c.if-not-drawn.true
 
 pub slice_bounds-push_line-end : goal.slice_bounds-push_line-end
 slice_bounds-push_line-end c = part_long _ _ (omega (arith, c.requires.room.few, c.requires.room.long))
 
 pub push_line-requires : goal.push_line-requires
-push_line-requires c = (c.requires.sized, c.requires.free (not-false _ c.if-not-drawn.false), c.requires.next (not-false _ c.if-not-drawn.false), coords_few c.args.line c.requires.room)
+push_line-requires c = (c.requires.sized, c.requires.free c.if-not-drawn.false, c.requires.next c.if-not-drawn.false, coords_few c.args.line c.requires.room)
 
 pub returns : goal.returns
-returns c = line_some _ _ _ c.args.line _ _ c.requires (not-false _ c.if-not-drawn.false) c.push_line.ensures
+returns c = line_some _ _ _ c.args.line _ _ c.requires c.if-not-drawn.false c.push_line.ensures

@@ -9,7 +9,7 @@ pub push-requires : goal.push-requires
 push-requires c = (c.clear.ensures.room, omega arith, K.cleared_few _ c.clear.ensures)
 
 pub returns-then-not-same : goal.returns-then-not-same
-returns-then-not-same c = K.drafted_one _ _ _ c.clear.ensures (not-true _ c.if-not-same.true) _ c.push.ensures
+returns-then-not-same c = K.drafted_one _ _ _ c.clear.ensures c.if-not-same.true _ c.push.ensures
 
 pub returns-else-not-same : goal.returns-else-not-same
-returns-else-not-same c = K.drafted_none _ _ _ c.clear.ensures (not-false _ c.if-not-same.false)
+returns-else-not-same c = K.drafted_none _ _ _ c.clear.ensures c.if-not-same.false

@@ -8,13 +8,13 @@ pub returns-then-not-is_map : goal.returns-then-not-is_map
 returns-then-not-is_map c = tt
 
 pub count-requires : goal.count-requires
-count-requires c = ((sound _ _ (sym c.is_map.ensures ∙ not-false _ c.if-not-is_map.false)).sized.words, omega arith)
+count-requires c = ((sound _ _ (sym c.is_map.ensures ∙ c.if-not-is_map.false)).sized.words, omega arith)
 
 pub returns-then-count-le0 : goal.returns-then-count-le0
 returns-then-count-le0 c = tt
 
 pub drop_rule-requires : goal.drop_rule-requires
-drop_rule-requires c = ((sound _ _ (sym c.is_map.ensures ∙ not-false _ c.if-not-is_map.false)).sized, omega (arith, c.count.ensures))
+drop_rule-requires c = ((sound _ _ (sym c.is_map.ensures ∙ c.if-not-is_map.false)).sized, omega (arith, c.count.ensures))
 
 pub returns : goal.returns
 returns c = tt

@@ -16,16 +16,16 @@ pub counts_ok-requires : goal.counts_ok-requires
 counts_ok-requires c = c.if-words-ne-WORDS.false
 
 pub returns-then-not-counts_ok : goal.returns-then-not-counts_ok
-returns-then-not-counts_ok c = bad_counts c.args.words.now (λ j. omega (arith, c.shared_slice_known-1.given j)) c.if-words-ne-WORDS.false c.args.coords.now (λ j. c.shared_slice_known-2-1.given j) c.if-coords-ne-COORDS.false (sym c.counts_ok.ensures ∙ not-true _ c.if-not-counts_ok.true)
+returns-then-not-counts_ok c = bad_counts c.args.words.now (λ j. omega (arith, c.shared_slice_known-1.given j)) c.if-words-ne-WORDS.false c.args.coords.now (λ j. c.shared_slice_known-2-1.given j) c.if-coords-ne-COORDS.false (sym c.counts_ok.ensures ∙ c.if-not-counts_ok.true)
 
 pub tables_ok-requires : goal.tables_ok-requires
-tables_ok-requires c = record { words = counts_sized _ c.if-words-ne-WORDS.false (sym c.counts_ok.ensures ∙ not-false _ c.if-not-counts_ok.false); coords = c.if-coords-ne-COORDS.false }
+tables_ok-requires c = record { words = counts_sized _ c.if-words-ne-WORDS.false (sym c.counts_ok.ensures ∙ c.if-not-counts_ok.false); coords = c.if-coords-ne-COORDS.false }
 
 pub returns-then-not-tables_ok : goal.returns-then-not-tables_ok
-returns-then-not-tables_ok c = bad_tables c.args.words.now (λ j. omega (arith, c.shared_slice_known-1.given j)) c.if-words-ne-WORDS.false c.args.coords.now (λ j. c.shared_slice_known-2-1.given j) c.if-coords-ne-COORDS.false (sym c.counts_ok.ensures ∙ not-false _ c.if-not-counts_ok.false) (sym c.tables_ok.ensures ∙ not-true _ c.if-not-tables_ok.true)
+returns-then-not-tables_ok c = bad_tables c.args.words.now (λ j. omega (arith, c.shared_slice_known-1.given j)) c.if-words-ne-WORDS.false c.args.coords.now (λ j. c.shared_slice_known-2-1.given j) c.if-coords-ne-COORDS.false (sym c.counts_ok.ensures ∙ c.if-not-counts_ok.false) (sym c.tables_ok.ensures ∙ c.if-not-tables_ok.true)
 
 pub points_used-requires : goal.points_used-requires
-points_used-requires c = (counts_sized _ c.if-words-ne-WORDS.false (sym c.counts_ok.ensures ∙ not-false _ c.if-not-counts_ok.false), tables_few _ _ (sym c.tables_ok.ensures ∙ not-false _ c.if-not-tables_ok.false))
+points_used-requires c = (counts_sized _ c.if-words-ne-WORDS.false (sym c.counts_ok.ensures ∙ c.if-not-counts_ok.false), tables_few _ _ (sym c.tables_ok.ensures ∙ c.if-not-tables_ok.false))
 
 pub returns : goal.returns
-returns c = then_points c.args.words.now (λ j. omega (arith, c.shared_slice_known-1.given j)) c.if-words-ne-WORDS.false c.args.coords.now (λ j. c.shared_slice_known-2-1.given j) c.if-coords-ne-COORDS.false (sym c.counts_ok.ensures ∙ not-false _ c.if-not-counts_ok.false) (sym c.tables_ok.ensures ∙ not-false _ c.if-not-tables_ok.false) _ c.points_used.ensures
+returns c = then_points c.args.words.now (λ j. omega (arith, c.shared_slice_known-1.given j)) c.if-words-ne-WORDS.false c.args.coords.now (λ j. c.shared_slice_known-2-1.given j) c.if-coords-ne-COORDS.false (sym c.counts_ok.ensures ∙ c.if-not-counts_ok.false) (sym c.tables_ok.ensures ∙ c.if-not-tables_ok.false) _ c.points_used.ensures

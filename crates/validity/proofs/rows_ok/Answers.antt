@@ -20,10 +20,10 @@ pub row_ok-requires : goal.row_ok-requires
 row_ok-requires c = (c.requires.0, c.requires.1, omega (arith, c.loop-i.invariant.1))
 
 pub returns-then-not-row_ok : goal.returns-then-not-row_ok
-returns-then-not-row_ok c = every_stop (λ b. b) _ _ _ _ c.loop-i.invariant.2 (tab_step (good_row c.args.k _ _) _ _ c.loop-i-test.true) (sym c.row_ok.ensures ∙ not-true _ c.if-not-row_ok.true)
+returns-then-not-row_ok c = every_stop (λ b. b) _ _ _ _ c.loop-i.invariant.2 (tab_step (good_row c.args.k _ _) _ _ c.loop-i-test.true) (sym c.row_ok.ensures ∙ c.if-not-row_ok.true)
 
 pub loop-i-preserved : goal.loop-i-preserved
-loop-i-preserved c = (omega arith, c.loop-i.invariant.1, every_next (λ b. b) _ _ _ _ c.loop-i.invariant.2 (tab_step (good_row c.args.k _ _) _ _ c.loop-i-test.true) (sym c.row_ok.ensures ∙ not-false _ c.if-not-row_ok.false))
+loop-i-preserved c = (omega arith, c.loop-i.invariant.1, every_next (λ b. b) _ _ _ _ c.loop-i.invariant.2 (tab_step (good_row c.args.k _ _) _ _ c.loop-i-test.true) (sym c.row_ok.ensures ∙ c.if-not-row_ok.false))
 
 pub returns : goal.returns
 returns c = every_end (λ b. b) _ _ c.loop-i.invariant.2 (tab_none (good_row c.args.k _ _) _ _ c.loop-i-test.false)

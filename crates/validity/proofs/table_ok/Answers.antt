@@ -13,8 +13,8 @@ rising-requires c = rw (c.width.ensures, c.base.ensures, c.count-n.ensures)
 
 pub returns-then-not-rising : goal.returns-then-not-rising
 unfolding good_table good_order
-returns-then-not-rising c = rw (← c.count-n.ensures, ← c.next-next.ensures, ← c.base.ensures, ← c.width.ensures, ← c.rising.ensures, not-true c.rising.result c.if-not-rising.true)
+returns-then-not-rising c = rw (← c.count-n.ensures, ← c.next-next.ensures, ← c.base.ensures, ← c.width.ensures, ← c.rising.ensures, c.if-not-rising.true)
 
 pub returns : goal.returns
 unfolding good_table good_order
-returns c = rw (← c.count-n.ensures, ← c.next-next.ensures, ← c.base.ensures, ← c.width.ensures, ← c.rising.ensures, not-false c.rising.result c.if-not-rising.false) c.rows_ok.ensures
+returns c = rw (← c.count-n.ensures, ← c.next-next.ensures, ← c.base.ensures, ← c.width.ensures, ← c.rising.ensures, c.if-not-rising.false) c.rows_ok.ensures

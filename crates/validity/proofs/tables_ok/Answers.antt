@@ -15,10 +15,10 @@ unfolding good_tables
 loop-k-init c = (omega arith, rw (list_to_tab (good_table _ _) 6))
 
 pub returns-then-not-table_ok : goal.returns-then-not-table_ok
-returns-then-not-table_ok c = every_stop (λ b. b) _ _ _ _ c.loop-k.invariant.1 (tab_step (good_table _ _) 6 _ c.loop-k-test.true) (sym c.table_ok.ensures ∙ not-true _ c.if-not-table_ok.true)
+returns-then-not-table_ok c = every_stop (λ b. b) _ _ _ _ c.loop-k.invariant.1 (tab_step (good_table _ _) 6 _ c.loop-k-test.true) (sym c.table_ok.ensures ∙ c.if-not-table_ok.true)
 
 pub loop-k-preserved : goal.loop-k-preserved
-loop-k-preserved c = (omega arith, every_next (λ b. b) _ _ _ _ c.loop-k.invariant.1 (tab_step (good_table _ _) 6 _ c.loop-k-test.true) (sym c.table_ok.ensures ∙ not-false _ c.if-not-table_ok.false))
+loop-k-preserved c = (omega arith, every_next (λ b. b) _ _ _ _ c.loop-k.invariant.1 (tab_step (good_table _ _) 6 _ c.loop-k-test.true) (sym c.table_ok.ensures ∙ c.if-not-table_ok.false))
 
 pub returns : goal.returns
 returns c = every_end (λ b. b) _ _ c.loop-k.invariant.1 (tab_none (good_table _ _) 6 _ c.loop-k-test.false)

@@ -15,10 +15,10 @@ pub loop-i-init : goal.loop-i-init
 loop-i-init c = on_map_start _ c.if-cs-ne0.false
 
 pub returns-then-not-on_map : goal.returns-then-not-on_map
-returns-then-not-on_map c = on_map_out _ _ c.loop-i.invariant c.loop-i-test.true (sym (not-true _ c.if-not-on_map.true) ∙ c.on_map.ensures)
+returns-then-not-on_map c = on_map_out _ _ c.loop-i.invariant c.loop-i-test.true (sym c.if-not-on_map.true ∙ c.on_map.ensures)
 
 pub loop-i-preserved : goal.loop-i-preserved
-loop-i-preserved c = on_map_next _ _ c.loop-i.invariant c.loop-i-test.true (sym (not-false _ c.if-not-on_map.false) ∙ c.on_map.ensures)
+loop-i-preserved c = on_map_next _ _ c.loop-i.invariant c.loop-i-test.true (sym c.if-not-on_map.false ∙ c.on_map.ensures)
 
 pub returns : goal.returns
 returns c = on_map_end _ _ c.loop-i.invariant c.loop-i-test.false

@@ -6,7 +6,7 @@ use borrow.Author.Rules.{rules}
 use Rattle.light_room.proofs.tests.joined_for.Goals as goal
 
 pub returns-then-not-joins : goal.returns-then-not-joins
-returns-then-not-joins c = joined_none _ _ _ _ _ refl refl (not-true _ c.if-not-joins.true)
+returns-then-not-joins c = joined_none _ _ _ _ _ refl refl c.if-not-joins.true
 
 pub returns-in_default : goal.returns-in_default
 returns-in_default c = joined_lost _ _ _ _ _ _ refl refl c.find.ensures c.in_default.is
@@ -15,4 +15,4 @@ pub joined_lanes-requires : goal.joined_lanes-requires
 joined_lanes-requires c = (c.requires, found_here _ _ _ _ c.find.ensures c.in-At.is)
 
 pub returns : goal.returns
-returns c = joined_some _ _ _ _ _ _ _ (not-false _ c.if-not-joins.false) c.find.ensures c.in-At.is c.joined_lanes.ensures
+returns c = joined_some _ _ _ _ _ _ _ c.if-not-joins.false c.find.ensures c.in-At.is c.joined_lanes.ensures

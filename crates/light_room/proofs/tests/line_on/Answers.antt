@@ -6,7 +6,7 @@ use borrow.Author.Rules.{rules}
 use Rattle.light_room.proofs.tests.line_on.Goals as goal
 
 pub returns-then-not-asked : goal.returns-then-not-asked
-returns-then-not-asked c = line_left c.args.line c.requires c.args.asked (not-true _ c.if-not-asked.true)
+returns-then-not-asked c = line_left c.args.line c.requires c.args.asked c.if-not-asked.true
 
 pub slice_bounds-stored_ok-end : goal.slice_bounds-stored_ok-end
 slice_bounds-stored_ok-end c = part_long _ _ (part_inside c.args.line c.requires)
@@ -15,4 +15,4 @@ pub stored_ok-requires : goal.stored_ok-requires
 stored_ok-requires c = part_thirds c.args.line c.requires
 
 pub returns : goal.returns
-returns c = line_tested c.args.line c.requires c.args.asked _ (not-false _ c.if-not-asked.false) c.stored_ok.ensures
+returns c = line_tested c.args.line c.requires c.args.asked _ c.if-not-asked.false c.stored_ok.ensures

@@ -21,4 +21,4 @@ pub returns-in-8 : goal.returns-in-8
 returns-in-8 c = has_rule_lem _ _ _ _ c.in-8.is c.holds-in-8.ensures
 
 pub returns-in_default : goal.returns-in_default
-returns-in_default c = has_none _ _ _ c.in_default.rest.0.0.0.0.0.1 c.in_default.rest.0.0.0.0.1 c.in_default.rest.0.0.0.1 c.in_default.rest.0.0.1 c.in_default.rest.0.1 c.in_default.rest.1
+returns-in_default c = has_none _ _ _ c.in_default.in_default-own.rest.0.0.0.0.0.1 c.in_default.in_default-own.rest.0.0.0.0.1 c.in_default.in_default-own.rest.0.0.0.1 c.in_default.in_default-own.rest.0.0.1 c.in_default.in_default-own.rest.0.1 c.in_default.in_default-own.rest.1
