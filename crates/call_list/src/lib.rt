@@ -139,7 +139,7 @@ fn no_call_reply(c: Checked) -> Reply
 
 // What is no call: 12 and 13 as every call tests them, then an answer of its own. Everything is left as it is.
 pub fn not_called(words: &[u64], coords: &[f64], fold: &[u64], tally: Tally, set: &[u64]) -> Carried
-    ensures { StepLeft none (record { words = words.entry.now; coords = coords.now; fold = fold.now; tally = tally; set = set.now }) result.reply (record { words = words.entry.now; coords = coords.now; fold = fold.now; tally = result.tally; set = set.now }) }
+    ensures { StepLeft none (record { words = words.now; coords = coords.now; fold = fold.now; tally = tally; set = set.now }) result.reply (record { words = words.now; coords = coords.now; fold = fold.now; tally = result.tally; set = set.now }) }
 {
     let c = finishing::check_lent(words, coords, fold, tally, set);
     Carried {
@@ -371,7 +371,7 @@ pub fn check_run(
     calls: &[u64],
     answers: &[u64],
 ) -> Ran
-    ensures { ran result ≡ run_answer (length calls.now / row_words) (record { words = words.entry.now; coords = coords.now; fold = fold.now; tally = tally; set = set.now }) answers.now }
+    ensures { ran result ≡ run_answer (length calls.now / row_words) (record { words = words.now; coords = coords.now; fold = fold.now; tally = tally; set = set.now }) answers.now }
 {
     let c = finishing::check_lent(words, coords, fold, tally, set);
     match c {

@@ -38,7 +38,7 @@ pub extern "C" fn lane_map_add_stop_line(
     rule: u64,
     answer: &mut [u64; ANSWER],
 ) -> u64
-    ensures { StepWritten (line_by lanes.now placement measure given.now rule) (record { words = words.entry.now; coords = coords.old; fold = fold.old; tally = tally_in tally.old; set = set.old }) result answer.new (record { words = words.exit.now; coords = coords.new; fold = fold.new; tally = tally_in tally.new; set = set.new }) }
+    ensures { StepWritten (line_by lanes.now placement measure given.now rule) (record { words = words.old; coords = coords.old; fold = fold.old; tally = tally_in tally.old; set = set.old }) result answer.new (record { words = words.new; coords = coords.new; fold = fold.new; tally = tally_in tally.new; set = set.new }) }
 {
     let t = tally_words::tally_of(tally);
     let c = numbered::stop_line_by(
@@ -65,7 +65,7 @@ pub extern "C" fn lane_map_add_traffic_signal(
     lamps: &[f64],
     answer: &mut [u64; ANSWER],
 ) -> u64
-    ensures { StepWritten (light_by lanes.now numbers.now measure height points.now housing.now lamps.now) (record { words = words.entry.now; coords = coords.old; fold = fold.old; tally = tally_in tally.old; set = set.old }) result answer.new (record { words = words.exit.now; coords = coords.new; fold = fold.new; tally = tally_in tally.new; set = set.new }) }
+    ensures { StepWritten (light_by lanes.now numbers.now measure height points.now housing.now lamps.now) (record { words = words.old; coords = coords.old; fold = fold.old; tally = tally_in tally.old; set = set.old }) result answer.new (record { words = words.new; coords = coords.new; fold = fold.new; tally = tally_in tally.new; set = set.new }) }
 {
     let t = tally_words::tally_of(tally);
     let c = numbered::signal_by(
@@ -88,7 +88,7 @@ pub extern "C" fn lane_map_set_regulatory_links(
     stop_lines: &[u64],
     answer: &mut [u64; ANSWER],
 ) -> u64
-    ensures { StepWritten (some (links_by rule lanes.now crosswalks.now stop_lines.now)) (record { words = words.entry.now; coords = coords.old; fold = fold.old; tally = tally_in tally.old; set = set.old }) result answer.new (record { words = words.exit.now; coords = coords.new; fold = fold.new; tally = tally_in tally.new; set = set.new }) }
+    ensures { StepWritten (some (links_by rule lanes.now crosswalks.now stop_lines.now)) (record { words = words.old; coords = coords.old; fold = fold.old; tally = tally_in tally.old; set = set.old }) result answer.new (record { words = words.new; coords = coords.new; fold = fold.new; tally = tally_in tally.new; set = set.new }) }
 {
     let t = tally_words::tally_of(tally);
     let c = numbered::links_by(

@@ -32,7 +32,7 @@ pub fn refused(r: Refusal, tally: Tally) -> Answered
 
 // What every call tests before all else: 12 for tables that are not a map's, then 13 for a fold that is not the map's or a set that is no table of one.
 pub fn check_lent(words: &[u64], coords: &[f64], fold: &[u64], tally: Tally, set: &[u64]) -> Checked
-    ensures { checked result ≡ lent_checks (record { words = words.entry.now; coords = coords.now; fold = fold.now; tally = tally; set = set.now }) }
+    ensures { checked result ≡ lent_checks (record { words = words.now; coords = coords.now; fold = fold.now; tally = tally; set = set.now }) }
 {
     if !validity::is_map(words, coords) {
         return Checked::Refused(Refusal::BadMap);

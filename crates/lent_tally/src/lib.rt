@@ -23,7 +23,7 @@ pub fn add_stop_line(
     given: &[f64],
     rule: StopRule,
 ) -> Called
-    ensures { CallLeft (add_stop_line (new_stop_line lanes.now how given.now rule)) (record { words = words.entry.now; coords = coords.old; fold = fold.old; tally = tally.old; set = set.old }) result (record { words = words.exit.now; coords = coords.new; fold = fold.new; tally = tally.new; set = set.new }) }
+    ensures { CallLeft (add_stop_line (new_stop_line lanes.now how given.now rule)) (record { words = words.old; coords = coords.old; fold = fold.old; tally = tally.old; set = set.old }) result (record { words = words.new; coords = coords.new; fold = fold.new; tally = tally.new; set = set.new }) }
 {
     let a = stop_lines::add_stop_line(words, coords, fold, *tally, set, lanes, how, given, rule);
     *tally = a.tally;
@@ -41,7 +41,7 @@ pub fn set_regulatory_links(
     crosswalks: &[u64],
     stop_lines: &[u64],
 ) -> Called
-    ensures { CallLeft (set_regulatory_links (rule_links rule lanes.now crosswalks.now stop_lines.now)) (record { words = words.entry.now; coords = coords.old; fold = fold.old; tally = tally.old; set = set.old }) result (record { words = words.exit.now; coords = coords.new; fold = fold.new; tally = tally.new; set = set.new }) }
+    ensures { CallLeft (set_regulatory_links (rule_links rule lanes.now crosswalks.now stop_lines.now)) (record { words = words.old; coords = coords.old; fold = fold.old; tally = tally.old; set = set.old }) result (record { words = words.new; coords = coords.new; fold = fold.new; tally = tally.new; set = set.new }) }
 {
     let a = links::set_regulatory_links(
         words, coords, fold, *tally, set, rule, lanes, crosswalks, stop_lines,

@@ -20,7 +20,7 @@ pub fn add_traffic_signal(
     housing: &[f64],
     lamps: &[f64],
 ) -> Called
-    ensures { CallLeft (add_traffic_signal (new_traffic_signal lanes.now q points.now housing.now lamps.now)) (record { words = words.entry.now; coords = coords.old; fold = fold.old; tally = tally.old; set = set.old }) result (record { words = words.exit.now; coords = coords.new; fold = fold.new; tally = tally.new; set = set.new }) }
+    ensures { CallLeft (add_traffic_signal (new_traffic_signal lanes.now q points.now housing.now lamps.now)) (record { words = words.old; coords = coords.old; fold = fold.old; tally = tally.old; set = set.old }) result (record { words = words.new; coords = coords.new; fold = fold.new; tally = tally.new; set = set.new }) }
 {
     let a = signals::add_traffic_signal(
         words, coords, fold, *tally, set, lanes, q, points, housing, lamps,

@@ -91,8 +91,8 @@ fn carry_out(
     crosswalks: &[u64],
     lines: &[u64],
 ) -> Answered
-    requires { (lent_checks (record { words = words.now; coords = coords.old; fold = fold.old; tally = tally; set = set.old }) ≡ done tt) × (lookup words.now 5 rule ≡ At i) × (links_fit (get_or (row_of words.now 5 i) 1 0) (length lanes.now) (length crosswalks.now) (length lines.now) ≡ true) }
-    ensures { LinksEnd (record { words = words.entry.now; coords = coords.old; fold = fold.old; tally = tally; set = set.old }) i (rule_links rule lanes.now crosswalks.now lines.now) result.called (record { words = words.exit.now; coords = coords.new; fold = fold.new; tally = result.tally; set = set.new }) }
+    requires { (lent_checks (record { words = words.old; coords = coords.old; fold = fold.old; tally = tally; set = set.old }) ≡ done tt) × (lookup words.old 5 rule ≡ At i) × (links_fit (get_or (row_of words.old 5 i) 1 0) (length lanes.now) (length crosswalks.now) (length lines.now) ≡ true) }
+    ensures { LinksEnd (record { words = words.old; coords = coords.old; fold = fold.old; tally = tally; set = set.old }) i (rule_links rule lanes.now crosswalks.now lines.now) result.called (record { words = words.new; coords = coords.new; fold = fold.new; tally = result.tally; set = set.new }) }
 {
     let same = link_plan::same::same_links(words, i, lanes, crosswalks, lines);
     let settled = check_fold(fold, same, rule);
@@ -120,8 +120,8 @@ fn link_rule(
     crosswalks: &[u64],
     lines: &[u64],
 ) -> Answered
-    requires { lent_checks (record { words = words.now; coords = coords.old; fold = fold.old; tally = tally; set = set.old }) ≡ done tt }
-    ensures { RuleEnds (record { words = words.entry.now; coords = coords.old; fold = fold.old; tally = tally; set = set.old }) (rule_links rule lanes.now crosswalks.now lines.now) result.called (record { words = words.exit.now; coords = coords.new; fold = fold.new; tally = result.tally; set = set.new }) }
+    requires { lent_checks (record { words = words.old; coords = coords.old; fold = fold.old; tally = tally; set = set.old }) ≡ done tt }
+    ensures { RuleEnds (record { words = words.old; coords = coords.old; fold = fold.old; tally = tally; set = set.old }) (rule_links rule lanes.now crosswalks.now lines.now) result.called (record { words = words.new; coords = coords.new; fold = fold.new; tally = result.tally; set = set.new }) }
 {
     let f = lookup::find(words, 5, rule);
     let Found::At(i) = f else {
@@ -148,7 +148,7 @@ pub fn set_regulatory_links(
     crosswalks: &[u64],
     stop_lines: &[u64],
 ) -> Answered
-    ensures { CallLeft (set_regulatory_links (rule_links rule lanes.now crosswalks.now stop_lines.now)) (record { words = words.entry.now; coords = coords.old; fold = fold.old; tally = tally; set = set.old }) result.called (record { words = words.exit.now; coords = coords.new; fold = fold.new; tally = result.tally; set = set.new }) }
+    ensures { CallLeft (set_regulatory_links (rule_links rule lanes.now crosswalks.now stop_lines.now)) (record { words = words.old; coords = coords.old; fold = fold.old; tally = tally; set = set.old }) result.called (record { words = words.new; coords = coords.new; fold = fold.new; tally = result.tally; set = set.new }) }
 {
     let lent = finishing::check_lent(words, coords, fold, tally, set);
     if let Checked::Refused(r) = lent {

@@ -22,7 +22,7 @@ pub fn stop_line_by(
     given: &[f64],
     rule: u64,
 ) -> Carried
-    ensures { StepLeft (line_by lanes.now placement measure given.now rule) (record { words = words.entry.now; coords = coords.old; fold = fold.old; tally = tally; set = set.old }) result.reply (record { words = words.exit.now; coords = coords.new; fold = fold.new; tally = result.tally; set = set.new }) }
+    ensures { StepLeft (line_by lanes.now placement measure given.now rule) (record { words = words.old; coords = coords.old; fold = fold.old; tally = tally; set = set.old }) result.reply (record { words = words.new; coords = coords.new; fold = fold.new; tally = result.tally; set = set.new }) }
 {
     if 2 < placement {
         return call_list::not_called(words, coords, fold, tally, set);
@@ -53,7 +53,7 @@ pub fn signal_by(
     lamps: &[f64],
 ) -> Carried
     requires { length numbers.now ≡ 17 }
-    ensures { StepLeft (light_by lanes.now numbers.now measure height points.now housing.now lamps.now) (record { words = words.entry.now; coords = coords.old; fold = fold.old; tally = tally; set = set.old }) result.reply (record { words = words.exit.now; coords = coords.new; fold = fold.new; tally = result.tally; set = set.new }) }
+    ensures { StepLeft (light_by lanes.now numbers.now measure height points.now housing.now lamps.now) (record { words = words.old; coords = coords.old; fold = fold.old; tally = tally; set = set.old }) result.reply (record { words = words.new; coords = coords.new; fold = fold.new; tally = result.tally; set = set.new }) }
 {
     let n = signal_row::lamp_count(lamps);
     if !boundary::signal_cases(numbers, n) {
@@ -78,7 +78,7 @@ pub fn links_by(
     crosswalks: &[u64],
     stop_lines: &[u64],
 ) -> Carried
-    ensures { StepLeft (some (links_by rule lanes.now crosswalks.now stop_lines.now)) (record { words = words.entry.now; coords = coords.old; fold = fold.old; tally = tally; set = set.old }) result.reply (record { words = words.exit.now; coords = coords.new; fold = fold.new; tally = result.tally; set = set.new }) }
+    ensures { StepLeft (some (links_by rule lanes.now crosswalks.now stop_lines.now)) (record { words = words.old; coords = coords.old; fold = fold.old; tally = tally; set = set.old }) result.reply (record { words = words.new; coords = coords.new; fold = fold.new; tally = result.tally; set = set.new }) }
 {
     let a = links::set_regulatory_links(
         words, coords, fold, tally, set, rule, lanes, crosswalks, stop_lines,

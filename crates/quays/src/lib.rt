@@ -33,7 +33,7 @@ pub fn add_to_both(
     given: &[f64],
     rule: StopRule,
 ) -> BothAnswered
-    ensures { BothLeft (new_stop_line lanes.now how given.now rule) (record { words = words.entry.now; coords = coords.old; fold = fold.old; tally = tally; set = set.old }) (record { words = words2.old; coords = coords2.old; fold = fold2.old; tally = tally2; set = set2.old }) result.first.called result.second.called (record { words = words.exit.now; coords = coords.new; fold = fold.new; tally = result.first.tally; set = set.new }) (record { words = words2.new; coords = coords2.new; fold = fold2.new; tally = result.second.tally; set = set2.new }) }
+    ensures { BothLeft (new_stop_line lanes.now how given.now rule) (record { words = words.old; coords = coords.old; fold = fold.old; tally = tally; set = set.old }) (record { words = words2.old; coords = coords2.old; fold = fold2.old; tally = tally2; set = set2.old }) result.first.called result.second.called (record { words = words.new; coords = coords.new; fold = fold.new; tally = result.first.tally; set = set.new }) (record { words = words2.new; coords = coords2.new; fold = fold2.new; tally = result.second.tally; set = set2.new }) }
 {
     let first = stop_lines::add_stop_line(words, coords, fold, tally, set, lanes, how, given, rule);
     let second = stop_lines::add_stop_line(

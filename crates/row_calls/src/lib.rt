@@ -20,7 +20,7 @@ fn line_row(
     reals: &[f64],
 ) -> Carried
     requires { length row.now ≡ row_words }
-    ensures { StepLeft (line_row row.now lists.now reals.now) (record { words = words.entry.now; coords = coords.old; fold = fold.old; tally = tally; set = set.old }) result.reply (record { words = words.exit.now; coords = coords.new; fold = fold.new; tally = result.tally; set = set.new }) }
+    ensures { StepLeft (line_row row.now lists.now reals.now) (record { words = words.old; coords = coords.old; fold = fold.old; tally = tally; set = set.old }) result.reply (record { words = words.new; coords = coords.new; fold = fold.new; tally = result.tally; set = set.new }) }
 {
     if !call_list::line_within(row, lists, reals) {
         return call_list::not_called(words, coords, fold, tally, set);
@@ -48,7 +48,7 @@ fn light_row(
     reals: &[f64],
 ) -> Carried
     requires { LightParts row.now reals.now × (length numbers.now ≡ 17) }
-    ensures { StepLeft (light_by lanes.now numbers.now measure height (line_part row.now reals.now) (housing_part row.now reals.now) (lamps_part row.now reals.now)) (record { words = words.entry.now; coords = coords.old; fold = fold.old; tally = tally; set = set.old }) result.reply (record { words = words.exit.now; coords = coords.new; fold = fold.new; tally = result.tally; set = set.new }) }
+    ensures { StepLeft (light_by lanes.now numbers.now measure height (line_part row.now reals.now) (housing_part row.now reals.now) (lamps_part row.now reals.now)) (record { words = words.old; coords = coords.old; fold = fold.old; tally = tally; set = set.old }) result.reply (record { words = words.new; coords = coords.new; fold = fold.new; tally = result.tally; set = set.new }) }
 {
     let pointed = call_list::light_pointed(row[3], row[5]);
     let points = call_list::part_at(reals, pointed, row[22], row[23]);
@@ -70,7 +70,7 @@ fn signal_row(
     reals: &[f64],
 ) -> Carried
     requires { length row.now ≡ row_words }
-    ensures { StepLeft (signal_row row.now lists.now reals.now) (record { words = words.entry.now; coords = coords.old; fold = fold.old; tally = tally; set = set.old }) result.reply (record { words = words.exit.now; coords = coords.new; fold = fold.new; tally = result.tally; set = set.new }) }
+    ensures { StepLeft (signal_row row.now lists.now reals.now) (record { words = words.old; coords = coords.old; fold = fold.old; tally = tally; set = set.old }) result.reply (record { words = words.new; coords = coords.new; fold = fold.new; tally = result.tally; set = set.new }) }
 {
     if !call_list::signal_within(row, lists, reals) {
         return call_list::not_called(words, coords, fold, tally, set);
@@ -95,7 +95,7 @@ fn links_row(
     lists: &[u64],
 ) -> Carried
     requires { length row.now ≡ row_words }
-    ensures { StepLeft (links_row row.now lists.now) (record { words = words.entry.now; coords = coords.old; fold = fold.old; tally = tally; set = set.old }) result.reply (record { words = words.exit.now; coords = coords.new; fold = fold.new; tally = result.tally; set = set.new }) }
+    ensures { StepLeft (links_row row.now lists.now) (record { words = words.old; coords = coords.old; fold = fold.old; tally = tally; set = set.old }) result.reply (record { words = words.new; coords = coords.new; fold = fold.new; tally = result.tally; set = set.new }) }
 {
     if !call_list::links_within(row, lists) {
         return call_list::not_called(words, coords, fold, tally, set);
@@ -120,7 +120,7 @@ pub fn carry_out(
     reals: &[f64],
 ) -> Carried
     requires { length row.now ≡ row_words }
-    ensures { StepLeft (call_at row.now lists.now reals.now) (record { words = words.entry.now; coords = coords.old; fold = fold.old; tally = tally; set = set.old }) result.reply (record { words = words.exit.now; coords = coords.new; fold = fold.new; tally = result.tally; set = set.new }) }
+    ensures { StepLeft (call_at row.now lists.now reals.now) (record { words = words.old; coords = coords.old; fold = fold.old; tally = tally; set = set.old }) result.reply (record { words = words.new; coords = coords.new; fold = fold.new; tally = result.tally; set = set.new }) }
 {
     let what = row[0];
     if what == 1 {

@@ -23,7 +23,7 @@ pub extern "C" fn lane_map_run_calls(
     reals: &[f64],
     answers: &mut [u64],
 ) -> u64
-    ensures { RunWritten (rows_in calls.now lists.now reals.now) (record { words = words.entry.now; coords = coords.old; fold = fold.old; tally = tally_in tally.old; set = set.old }) answers.old result (record { words = words.exit.now; coords = coords.new; fold = fold.new; tally = tally_in tally.new; set = set.new }) answers.new }
+    ensures { RunWritten (rows_in calls.now lists.now reals.now) (record { words = words.old; coords = coords.old; fold = fold.old; tally = tally_in tally.old; set = set.old }) answers.old result (record { words = words.new; coords = coords.new; fold = fold.new; tally = tally_in tally.new; set = set.new }) answers.new }
 {
     let t = tally_words::tally_of(tally);
     let a = runs::run_calls(words, coords, fold, t, set, calls, lists, reals, answers);
@@ -67,7 +67,7 @@ pub extern "C" fn lane_map_run_opened(
     buffer: &mut [u8],
     written: &mut [u64; 2],
 ) -> u64
-    ensures { OpenedWritten file.now (rows_in calls.now lists.now reals.now) (record { words = words.entry.now; coords = coords.old; fold = fold.old; tally = tally_in tally.old; set = set.old }) answers.old buffer.old written.old result (record { words = words.exit.now; coords = coords.new; fold = fold.new; tally = tally_in tally.new; set = set.new }) answers.new buffer.new written.new }
+    ensures { OpenedWritten file.now (rows_in calls.now lists.now reals.now) (record { words = words.old; coords = coords.old; fold = fold.old; tally = tally_in tally.old; set = set.old }) answers.old buffer.old written.old result (record { words = words.new; coords = coords.new; fold = fold.new; tally = tally_in tally.new; set = set.new }) answers.new buffer.new written.new }
 {
     let a = runs::run_opened(
         file, words, coords, fold, set, calls, lists, reals, answers, buffer,

@@ -27,8 +27,8 @@ fn run_rows(
     answers: &mut [u64],
     n: usize,
 ) -> Tally
-    requires { Room (record { words = words.now; coords = coords.old; fold = fold.old; tally = tally; set = set.old }) calls.now answers.old n }
-    ensures { RowsLeft (list_to (row_at calls.now lists.now reals.now) n) (record { words = words.entry.now; coords = coords.old; fold = fold.old; tally = tally; set = set.old }) answers.old (record { words = words.exit.now; coords = coords.new; fold = fold.new; tally = result; set = set.new }) answers.new }
+    requires { Room (record { words = words.old; coords = coords.old; fold = fold.old; tally = tally; set = set.old }) calls.now answers.old n }
+    ensures { RowsLeft (list_to (row_at calls.now lists.now reals.now) n) (record { words = words.old; coords = coords.old; fold = fold.old; tally = tally; set = set.old }) answers.old (record { words = words.new; coords = coords.new; fold = fold.new; tally = result; set = set.new }) answers.new }
 {
     let mut kept = tally;
     let mut i = 0;
@@ -56,7 +56,7 @@ pub fn run_calls(
     reals: &[f64],
     answers: &mut [u64],
 ) -> RunAnswer
-    ensures { RunLeft (rows_in calls.now lists.now reals.now) (record { words = words.entry.now; coords = coords.old; fold = fold.old; tally = tally; set = set.old }) answers.old result.ran (record { words = words.exit.now; coords = coords.new; fold = fold.new; tally = result.tally; set = set.new }) answers.new }
+    ensures { RunLeft (rows_in calls.now lists.now reals.now) (record { words = words.old; coords = coords.old; fold = fold.old; tally = tally; set = set.old }) answers.old result.ran (record { words = words.new; coords = coords.new; fold = fold.new; tally = result.tally; set = set.new }) answers.new }
 {
     let checked = call_list::check_run(words, coords, fold, tally, set, calls, answers);
     match checked {
@@ -97,7 +97,7 @@ fn check_opened(
     calls: &[u64],
     answers: &[u64],
 ) -> Ran
-    ensures { Tested file.now calls.now (record { words = words.entry.now; coords = coords.now; fold = fold.now; tally = no_tally; set = set.now }) answers.now result }
+    ensures { Tested file.now calls.now (record { words = words.now; coords = coords.now; fold = fold.now; tally = no_tally; set = set.now }) answers.now result }
 {
     if words.len() != layout::WORDS {
         return Ran::Refused(Refusal::BadMap);
@@ -140,7 +140,7 @@ pub fn run_opened(
     answers: &mut [u64],
     buffer: &mut [u8],
 ) -> OpenedRun
-    ensures { OpenedLeft file.now (rows_in calls.now lists.now reals.now) (record { words = words.entry.now; coords = coords.old; fold = fold.old; tally = no_tally; set = set.old }) answers.old buffer.old result.ran result.written (record { words = words.exit.now; coords = coords.new; fold = fold.new; tally = result.tally; set = set.new }) answers.new buffer.new }
+    ensures { OpenedLeft file.now (rows_in calls.now lists.now reals.now) (record { words = words.old; coords = coords.old; fold = fold.old; tally = no_tally; set = set.old }) answers.old buffer.old result.ran result.written (record { words = words.new; coords = coords.new; fold = fold.new; tally = result.tally; set = set.new }) answers.new buffer.new }
 {
     let checked = check_opened(file, words, coords, fold, set, calls, answers);
     match checked {

@@ -69,8 +69,8 @@ fn carry_out(
     lamps: &[f64],
     p: SignalPlan,
 ) -> Answered
-    requires { (lent_checks (record { words = words.now; coords = coords.old; fold = fold.old; tally = tally; set = set.old }) ≡ done tt) × SignalReady words.now coords.old q lamps.now (new_traffic_signal lanes.now q points.now given.now lamps.now) p }
-    ensures { CallEnds (record { words = words.entry.now; coords = coords.old; fold = fold.old; tally = tally; set = set.old }) (signal_draft (new_traffic_signal lanes.now q points.now given.now lamps.now) (map_of words.entry.now coords.old) p) result.called (record { words = words.exit.now; coords = coords.new; fold = fold.new; tally = result.tally; set = set.new }) }
+    requires { (lent_checks (record { words = words.old; coords = coords.old; fold = fold.old; tally = tally; set = set.old }) ≡ done tt) × SignalReady words.old coords.old q lamps.now (new_traffic_signal lanes.now q points.now given.now lamps.now) p }
+    ensures { CallEnds (record { words = words.old; coords = coords.old; fold = fold.old; tally = tally; set = set.old }) (signal_draft (new_traffic_signal lanes.now q points.now given.now lamps.now) (map_of words.old coords.old) p) result.called (record { words = words.new; coords = coords.new; fold = fold.new; tally = result.tally; set = set.new }) }
 {
     let l = p.light;
     let ends = p.ends;
@@ -101,7 +101,7 @@ pub fn add_traffic_signal(
     housing: &[f64],
     lamps: &[f64],
 ) -> Answered
-    ensures { CallLeft (add_traffic_signal (new_traffic_signal lanes.now q points.now housing.now lamps.now)) (record { words = words.entry.now; coords = coords.old; fold = fold.old; tally = tally; set = set.old }) result.called (record { words = words.exit.now; coords = coords.new; fold = fold.new; tally = result.tally; set = set.new }) }
+    ensures { CallLeft (add_traffic_signal (new_traffic_signal lanes.now q points.now housing.now lamps.now)) (record { words = words.old; coords = coords.old; fold = fold.old; tally = tally; set = set.old }) result.called (record { words = words.new; coords = coords.new; fold = fold.new; tally = result.tally; set = set.new }) }
 {
     let lent = finishing::check_lent(words, coords, fold, tally, set);
     if let Checked::Refused(r) = lent {

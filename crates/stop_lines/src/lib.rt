@@ -35,8 +35,8 @@ fn carry_out(
     clamped: bool,
     ends: MaybeEnds,
 ) -> Answered
-    requires { (lent_checks (record { words = words.now; coords = coords.old; fold = fold.old; tally = tally; set = set.old }) ≡ done tt) × (within_ceilings (placed_draft rule lanes.now (map_of words.now coords.old) (record { points = polyline_of points.now; warnings = clamped_by clamped (get_or lanes.now 0 0); ends = maybe_ends ends })).map ≡ true) × (0 < length lanes.now) × (length points.now ≤ 192) }
-    ensures { CallEnds (record { words = words.entry.now; coords = coords.old; fold = fold.old; tally = tally; set = set.old }) (placed_draft rule lanes.now (map_of words.entry.now coords.old) (record { points = polyline_of points.entry.now; warnings = clamped_by clamped (get_or lanes.now 0 0); ends = maybe_ends ends })) result.called (record { words = words.exit.now; coords = coords.new; fold = fold.new; tally = result.tally; set = set.new }) }
+    requires { (lent_checks (record { words = words.old; coords = coords.old; fold = fold.old; tally = tally; set = set.old }) ≡ done tt) × (within_ceilings (placed_draft rule lanes.now (map_of words.old coords.old) (record { points = polyline_of points.now; warnings = clamped_by clamped (get_or lanes.now 0 0); ends = maybe_ends ends })).map ≡ true) × (0 < length lanes.now) × (length points.now ≤ 192) }
+    ensures { CallEnds (record { words = words.old; coords = coords.old; fold = fold.old; tally = tally; set = set.old }) (placed_draft rule lanes.now (map_of words.old coords.old) (record { points = polyline_of points.now; warnings = clamped_by clamped (get_or lanes.now 0 0); ends = maybe_ends ends })) result.called (record { words = words.new; coords = coords.new; fold = fold.new; tally = result.tally; set = set.new }) }
 {
     let number = map::update::fresh(words);
     let lane = lanes[0];
@@ -67,7 +67,7 @@ pub fn add_stop_line(
     given: &[f64],
     rule: StopRule,
 ) -> Answered
-    ensures { CallLeft (add_stop_line (new_stop_line lanes.now how given.now rule)) (record { words = words.entry.now; coords = coords.old; fold = fold.old; tally = tally; set = set.old }) result.called (record { words = words.exit.now; coords = coords.new; fold = fold.new; tally = result.tally; set = set.new }) }
+    ensures { CallLeft (add_stop_line (new_stop_line lanes.now how given.now rule)) (record { words = words.old; coords = coords.old; fold = fold.old; tally = tally; set = set.old }) result.called (record { words = words.new; coords = coords.new; fold = fold.new; tally = result.tally; set = set.new }) }
 {
     let lent = finishing::check_lent(words, coords, fold, tally, set);
     if let Checked::Refused(r) = lent {
