@@ -49,13 +49,13 @@ pub fn place_after(n: Number, at: usize) -> usize
 }
 
 pub fn read_map<'a, 'b, 'c>(r: Reader<'a>, words: &'b mut [u64], coords: &'c mut [f64]) -> MapRead
-    ensures { MapReadInto (drop r.at r.bytes.now) words.old coords.old result words.new coords.new }
+    ensures { MapReadInto (drop r.entry.at r.entry.bytes.now) words.old coords.old result words.new coords.new }
 {
     map_at(r.bytes, r.at, words, coords)
 }
 
 pub fn read_changes<'a, 'b>(r: Reader<'a>, set: &'b mut [u64]) -> ChangesRead
-    ensures { ChangesReadInto (drop r.at r.bytes.now) set.old result set.new }
+    ensures { ChangesReadInto (drop r.entry.at r.entry.bytes.now) set.old result set.new }
 {
     changes_at(r.bytes, r.at, set)
 }

@@ -5,4 +5,4 @@ use Rattle.reader.proofs.begin.Reads as begin-reads
 use Rattle.reader.proofs.map_at.Goals as goal
 
 pub returns : goal.returns
-returns c = L.map_read c.args.bytes.now c.args.at c.begin-from.result c.begin-from.ensures.1 c.read_map.ensures
+returns c = L.map_read_lem c.args.bytes.now c.args.at c.begin-from.result c.begin-from.ensures.1 c.read_map.ensures
