@@ -1,4 +1,4 @@
-// Links the static libraries that run.sh has `rt staticlib` write.
+// Links the static libraries that run.sh has `rt lib` write, and copies.
 fn main() {
     let here = std::env::var("CARGO_MANIFEST_DIR").unwrap();
     println!("cargo:rustc-link-search=native={here}/../target/staticlib");

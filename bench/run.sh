@@ -8,8 +8,11 @@
 # requests (random requests with the Rust's answers, for target/bin/geometry_replay FILE).
 set -eu
 cd "$(dirname "$0")/.."
-for crate in root geometry_export table_export edit_export run_export files_export; do
-    rt staticlib "$crate" >/dev/null
+mkdir -p target/staticlib
+for crate in root_c geometry_export table_export edit_export run_export files_export; do
+    (cd "crates/$crate" && rt lib >/dev/null)
+    # the root's is linked under the root's own name
+    cp "crates/$crate/out/lib$crate.a" "target/staticlib/lib${crate%_c}.a"
 done
 cd bench
 driver=$1

@@ -10,7 +10,7 @@ fail() {
 }
 
 # the code: comments, attributes and contracts apart
-code=$(sed -e 's,//.*,,' -e 's,#\[no_mangle\],,' -e '/^ghost use/d' -e '/^ *requires {/d' -e '/^ *ensures {/d' crates/root/src/lib.rt)
+code=$(sed -e 's,//.*,,' -e '/^#!*\[.*\]$/d' -e '/^ghost use/d' -e '/^ *requires {/d' -e '/^ *ensures {/d' crates/root/src/lib.rt)
 loops=$(echo "$code" | grep -cwE 'while|for|loop') || true
 [ "$loops" = 1 ] || fail "$loops loop statements"
 if echo "$code" | grep -nE '\<const\>|\<static\>|\['; then fail "a constant or an array"; fi
@@ -22,8 +22,8 @@ paths=$(echo "$code" | grep -oE '[a-z0-9_]+::[a-z0-9_:]+' | grep -vE '^(u64::lea
 echo "loop statements: 1; constants, arrays, other crates: none"
 echo "numbers: $(echo "$code" | grep -oE '\<[0-9][0-9A-Fa-fx_]*' | sed 's/_//g' | sort -u | tr '\n' ' ')"
 
-rt staticlib root >/dev/null
-library=target/staticlib/libroot.a
+(cd crates/root_c && rt lib >/dev/null)
+library=crates/root_c/out/libroot_c.a
 data=$(objdump -h "$library" | awk '/^ *[0-9]+ \./ { name = $2; size = $3 } /ALLOC/ && !/CODE/ { print name, size }')
 [ "$data" = ".rodata.cst8 00000008" ] || fail "data: $data"
 objdump -s -j .rodata.cst8 "$library" | grep -q ' 0000 00000000 0000f87f ' || fail "8 bytes that are not the NaN"

@@ -1,4 +1,6 @@
 -- `placing::stop_line::place_at` meets its contract. Assumes nothing.
+use mathlib.Core.Bool.{not}
+use mathlib.Core.Path.{ap}
 use mathlib.Core.Path.{◌≡◌}
 use lib.ListN.{length}
 use Rattle.placing.proofs.PlaceLaws.{station_bad, section_refused, section_placed, across_room}
@@ -6,7 +8,7 @@ use borrow.Author.Rules.{rules}
 use Rattle.placing.proofs.stop_line.place_at.Goals as goal
 
 pub returns-then-not-is_finite : goal.returns-then-not-is_finite
-returns-then-not-is_finite c = (station_bad _ _ _ _ _ _ _ c.is_finite.ensures _ c.if-not-is_finite.true c.refused_line.ensures, c.refused_line.ensures.room)
+returns-then-not-is_finite c = (station_bad _ _ _ _ _ _ _ c.is_finite.ensures _ (ap not c.if-not-is_finite.true) c.refused_line.ensures, c.refused_line.ensures.room)
 
 pub returns-in-Refused : goal.returns-in-Refused
 returns-in-Refused c = (search (rules, section_refused), search rules)
