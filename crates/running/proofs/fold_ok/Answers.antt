@@ -1,4 +1,6 @@
 -- `running::fold_ok` meets its contract. Assumes nothing.
+use mathlib.Core.Bool.{not}
+use mathlib.Core.Path.{ap}
 use native.Mathlib.Omega.{arith}
 use Rattle.running.proofs.TestLaws as L
 use borrow.Author.Rules.{rules}
@@ -8,7 +10,7 @@ pub returns-then-not-lists_ok : goal.returns-then-not-lists_ok
 returns-then-not-lists_ok c = search (rules, L.fold-told)
 
 pub bounds-fold-3 : goal.bounds-fold-3
-bounds-fold-3 c = omega (arith, L.ok_size _ _ c.lists_ok.ensures c.if-not-lists_ok.false)
+bounds-fold-3 c = omega (arith, L.ok_size _ _ c.lists_ok.ensures (ap not c.if-not-lists_ok.false))
 
 pub returns-then-fold-ne0 : goal.returns-then-fold-ne0
 returns-then-fold-ne0 c = search (rules, L.fold-told)

@@ -18,7 +18,7 @@ pub returns-then-cs-gt64 : goal.returns-then-cs-gt64
 returns-then-cs-gt64 c = shape_many _ c.if-cs-ne0.false _ c.all_finite.ensures (ap not c.if-not-all_finite.false) _ c.all_on_map.ensures (ap not c.if-not-all_on_map.false) c.if-cs-gt64.true
 
 pub returns-then-not-is_valid : goal.returns-then-not-is_valid
-returns-then-not-is_valid c = shape_short _ c.if-cs-ne0.false _ c.all_finite.ensures (ap not c.if-not-all_finite.false) _ c.all_on_map.ensures (ap not c.if-not-all_on_map.false) c.if-cs-gt64.false _ c.is_valid.ensures c.if-not-is_valid.true
+returns-then-not-is_valid c = shape_short _ c.if-cs-ne0.false _ c.all_finite.ensures (ap not c.if-not-all_finite.false) _ c.all_on_map.ensures (ap not c.if-not-all_on_map.false) c.if-cs-gt64.false _ c.is_valid.ensures (ap not c.if-not-is_valid.true)
 
 pub returns : goal.returns
-returns c = shape_fine _ c.if-cs-ne0.false _ c.all_finite.ensures (ap not c.if-not-all_finite.false) _ c.all_on_map.ensures (ap not c.if-not-all_on_map.false) c.if-cs-gt64.false _ c.is_valid.ensures c.if-not-is_valid.false
+returns c = shape_fine _ c.if-cs-ne0.false _ c.all_finite.ensures (ap not c.if-not-all_finite.false) _ c.all_on_map.ensures (ap not c.if-not-all_on_map.false) c.if-cs-gt64.false _ c.is_valid.ensures (ap not c.if-not-is_valid.false)
