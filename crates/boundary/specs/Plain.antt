@@ -1,5 +1,5 @@
 -- Calls by numbers: what they ask for, or that they are no call. A number that the call does not read is not looked at.
-use Rattle.std.specs.Prelude.{ℕ, Bool, ◌&&◌, cond, List, ltb, Float}
+use Rattle.std.specs.Prelude.{ℕ, ◌&&◌, cond, List, ltb, Float}
 use Rattle.std.proofs.Math.Option.{Option, none, some}
 use Rattle.edit.specs.StopLine.{NewStopLine}
 use Rattle.edit.specs.Light.{NewTrafficSignal}

@@ -10,7 +10,6 @@ use lib.Seq.{get_or-set_same, get_or-set_other, set-get_or}
 use borrow.Author.Tests.{eqb-true, eqb-false, ltb-true, ltb-false}
 use Rattle.map.specs.Entity.{EntityRef, entity}
 use Rattle.changes.specs.ChangeSet.{Warning, warning, no_changes, tally_of}
-use Rattle.changes.specs.declared.Tally.{Tally}
 use Rattle.changes.specs.ChangeFile.{max_entries, max_warnings}
 use Rattle.changes.specs.Layout.{from_of, set_words, count_in, ref_at, refs_at, about_of, warning_at, warnings_at, list_in, change_set_of}
 use Rattle.changes.specs.Walk.{put_ref, written}

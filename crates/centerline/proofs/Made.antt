@@ -1,8 +1,8 @@
 -- Lines that are made: reversed, resampled, and the centreline.
-use Prim.Native.Nat.{ℕ, zero, suc, ◌+◌, ◌-◌, ◌*◌, ◌^◌, ◌≤◌, ◌<◌, max}
+use Prim.Native.Nat.{ℕ, suc, ◌+◌, ◌-◌, ◌*◌, ◌^◌, ◌≤◌, ◌<◌, max}
 use mathlib.Core.Path.{◌≡◌, refl, sym, ap, ◌∙◌}
 use mathlib.Core.List.{List, [], ◌∷◌, ◌++◌, reverse, reverse-cons}
-use mathlib.Core.Option.{Option, none, some}
+use mathlib.Core.Option.{none, some}
 use native.Mathlib.Omega.{arith}
 use lib.ListN.{length, get_or}
 use lib.Dec.{T}
@@ -12,9 +12,9 @@ use borrow.Author.Tests.{ne_eqb, le-leb}
 use Rattle.rows.specs.Lists.{or_default, list_to}
 use Rattle.geometry.specs.declared.Point3.{Point3}
 use Rattle.geometry.specs.declared.Location.{Location}
-use Rattle.geometry.specs.Double.{◌⊗◌, ◌⊘◌, whole, half}
-use Rattle.geometry.specs.Point.{origin, lerp}
-use Rattle.geometry.specs.Polyline.{Polyline, point_in, pt, polyline_length, reversed, locate, point_of, point_at, resampled, resample_count, middle, centerline}
+use Rattle.geometry.specs.Double.{◌⊗◌, ◌⊘◌, whole}
+use Rattle.geometry.specs.Point.{origin}
+use Rattle.geometry.specs.Polyline.{Polyline, point_in, pt, polyline_length, reversed, point_of, resampled, resample_count, middle, centerline}
 use Rattle.polyline.proofs.Lists.{length-list_to, get_or-list_to}
 use Rattle.polyline.proofs.Lines.{at_some}
 use Rattle.centerline.specs.declared.Line.{Line}

@@ -1,12 +1,12 @@
 -- A polyline's stations, and its table of stations and segment lengths, filled point by point.
 use Prim.Native.Nat.{ℕ, zero, suc, ◌+◌, ◌-◌, ◌*◌, ◌≤◌, ◌<◌}
-use mathlib.Core.Path.{◌≡◌, refl, sym, ap, ap₂, ◌∙◌}
+use mathlib.Core.Path.{◌≡◌, refl, ap₂, ◌∙◌}
 use mathlib.Core.Logic.{⊎_elim}
 use mathlib.Core.List.{List, [], ◌∷◌, ◌++◌}
 use native.Mathlib.Omega.{arith}
 use native.Mathlib.Nat.{eq-or-lt_of_le}
 use native.Mathlib.Numerals.{add-one}
-use lib.ListN.{length, get_or, set, take, replicate, length-set, length-replicate, get_or-replicate}
+use lib.ListN.{length, get_or, set, take, replicate, length-set}
 use lib.Seq.{get_or-set_same, get_or-set_other, take-suc-set}
 use lib.Ieee.{Float, nan}
 use Rattle.rows.specs.Lists.{list_to}

@@ -3,20 +3,19 @@ use Prim.Native.Nat.{ℕ, zero, suc, ◌+◌, ◌-◌, ◌*◌, ◌≤◌, ◌<�
 use mathlib.Core.Path.{◌≡◌, refl, sym, ap, ◌∙◌, subst}
 use mathlib.Core.Bool.{Bool, true, false, ◌&&◌, cond}
 use mathlib.Core.Logic.{⊎_elim}
-use mathlib.Core.Option.{Option, none, some}
+use mathlib.Core.Option.{none, some}
 use native.Mathlib.Omega.{arith}
 use native.Mathlib.Nat.{eq-or-lt_of_le}
 use native.Mathlib.Numerals.{add-one}
 use lib.Dec.{T}
-use lib.ListN.{length, get_or}
-use lib.Ieee.{Float, nan, le, lt}
+use lib.ListN.{length}
+use lib.Ieee.{Float, le, lt}
 use Rattle.rows.specs.Lists.{or_default, first_from}
-use Rattle.geometry.specs.declared.Location.{Location}
 use Rattle.geometry.specs.Double.{◌⊕◌, ◌⊖◌, ◌⊘◌, f0, f1, clamp}
 use Rattle.geometry.specs.Polyline.{Polyline, segment_length, length_to, location, reach, locate}
 use Rattle.polyline.proofs.Lists.{first_here, first_past, first_end}
-use Rattle.polyline.proofs.Lines.{reach_here, reach_past, locate_past}
-use Rattle.centerline.specs.Line.{Measured, Passed, Located}
+use Rattle.polyline.proofs.Lines.{reach_here, locate_past}
+use Rattle.centerline.specs.Line.{Passed, Located}
 use Rattle.centerline.proofs.Order.{le_trans}
 
 split : {A : Type 0} (b : Bool) → (b ≡ true → A) → (b ≡ false → A) → A

@@ -1,15 +1,14 @@
 -- Closed cases: what a fold keeps, and what is no set.
 use mathlib.Core.Path.{◌≡◌, refl}
-use mathlib.Core.Bool.{Bool, true, false}
-use mathlib.Core.Option.{Option, none, some}
+use mathlib.Core.Bool.{true, false}
+use mathlib.Core.Option.{none, some}
 use mathlib.Core.List.{List, [], ◌∷◌, ◌++◌, map}
 use Prim.Native.Nat.{ℕ, ◌+◌}
-use Rattle.rows.specs.Lists.{list_to, same_list, every}
+use Rattle.rows.specs.Lists.{list_to}
 use Rattle.refusal.specs.Answer.{Answer, refused, done}
 use Rattle.codec.specs.Format
-use Rattle.codec.specs.Format.{Bytes}
 use Rattle.map.specs.Entity.{EntityRef, entity}
-use Rattle.changes.specs.ChangeSet.{ChangeSet, Warning, warning, no_changes, normalize, fold_step, fold_of}
+use Rattle.changes.specs.ChangeSet.{ChangeSet, warning, no_changes, normalize, fold_of}
 use Rattle.changes.specs.ChangeFile.{change_file, is_set}
 use Rattle.changes.specs.Running.{fold_call, open_running}
 

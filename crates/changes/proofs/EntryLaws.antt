@@ -4,14 +4,12 @@ use mathlib.Core.Bool.{Bool, true, false, not, ◌&&◌}
 use mathlib.Core.List.{List, [], ◌∷◌, ◌++◌}
 use Prim.Native.Nat.{ℕ, zero, suc, ◌+◌, ◌-◌, ◌*◌, ◌^◌, ◌≤◌, ◌<◌, Ordering}
 use native.Mathlib.Omega.{arith}
-use lib.Dec.{ltb, leb, eqb}
 use lib.ListN.{length, get_or}
-use borrow.Author.Tests.{lt-ltb, ltb-true, le-ltb, le-leb, leb-true, lt-leb}
+use borrow.Author.Tests.{lt-ltb, ltb-true, le-leb, leb-true}
 use Rattle.rows.specs.Lists.{every}
-use Rattle.rows.proofs.Bools.{parts, and_i, and_no, clash, agree}
+use Rattle.rows.proofs.Bools.{parts, and_i, and_no, agree}
 use Rattle.codec.specs.Format.{◌⊗◌, only, via}
-use Rattle.codec.specs.Number.{number}
-use Rattle.codec.specs.Items.{below, list}
+use Rattle.codec.specs.Items.{below}
 use Rattle.codec.proofs.Fits.{list_each, list_few}
 use Rattle.map.specs.Entity.{EntityRef, entity, compare_refs}
 use Rattle.changes.specs.declared.lists.Order.{Order}
@@ -20,7 +18,7 @@ use Rattle.changes.specs.Order.{order_of}
 use Rattle.changes.specs.ChangeFile.{max_entries, is_before, rise_after, rising_refs, kinds, entry, entries}
 use Rattle.changes.specs.Layout.{ref_at, refs_at}
 use Rattle.changes.specs.Walk.{refs_to, Walks}
-use Rattle.changes.proofs.Refs.{Earlier, by_kind, before, rise_rising}
+use Rattle.changes.proofs.Refs.{by_kind, before, rise_rising}
 use Rattle.changes.proofs.Entries.{entry_fits, entries_fit}
 use Rattle.changes.proofs.WalkLaws.{refs_step, refs_none}
 

@@ -1,15 +1,15 @@
 -- Laws of the fold over the definitions: an empty set alters nothing, the lists of a fold are apart, and how long they are.
-use mathlib.Core.Path.{◌≡◌, refl, sym, ap, ap₂, ◌∙◌}
+use mathlib.Core.Path.{◌≡◌, refl, sym, ap, ◌∙◌}
 use mathlib.Core.Bool.{Bool, true, false, not, ◌&&◌, cond}
 use mathlib.Core.List.{List, [], ◌∷◌, ◌++◌, append-nil}
 use Prim.Native.Nat.{◌+◌, ◌≤◌}
 use native.Mathlib.Omega.{arith}
 use lib.ListN.{length, length-append}
-use Rattle.rows.specs.Lists.{every, keep, no_entries}
+use Rattle.rows.specs.Lists.{every, keep}
 use Rattle.rows.proofs.Bools.{parts, and_i, and_l, and_r, clash}
 use Rattle.map.specs.Entity.{EntityRef, listed}
-use Rattle.changes.specs.ChangeSet.{Warning, ChangeSet, no_changes, sort_refs, without, normalize, fold_step}
-use Rattle.changes.specs.ChangeFile.{rising_refs, entries, apart, lists_apart, lists_ok}
+use Rattle.changes.specs.ChangeSet.{ChangeSet, no_changes, sort_refs, without, normalize, fold_step}
+use Rattle.changes.specs.ChangeFile.{rising_refs, apart, lists_apart, lists_ok}
 use Rattle.changes.proofs.Refs.{listed_keep, listed_sort, every_listed, listed_every, sort_rising, rising_same, length_sort, length_without}
 use Rattle.changes.proofs.EntryLaws.{entries_rise}
 

@@ -1,12 +1,12 @@
 -- Walks over lists of entries in flat slices: the step of a walk, and what the first entries of two rising lists say of the lists.
-use mathlib.Core.Path.{◌≡◌, refl, sym, ap, ap₂, ◌∙◌, subst}
-use mathlib.Core.Bool.{Bool, true, false, not, ◌&&◌, ◌||◌, cond}
+use mathlib.Core.Path.{◌≡◌, refl, sym, ◌∙◌, subst}
+use mathlib.Core.Bool.{Bool, true, false, ◌&&◌, ◌||◌}
 use mathlib.Core.List.{List, [], ◌∷◌, ◌++◌}
 use Prim.Native.Nat.{ℕ, zero, suc, ◌+◌, ◌-◌, ◌*◌, ◌≤◌, ◌<◌, compare, Ordering}
 use native.Mathlib.Omega.{arith}
-use lib.ListN.{length, get_or, set, length-set}
-use Rattle.rows.specs.Lists.{every, keep, by_order}
-use Rattle.rows.proofs.Bools.{parts, and_i, clash, lt_is, eq_is, is_lt, is_eq}
+use lib.ListN.{get_or}
+use Rattle.rows.specs.Lists.{every, keep}
+use Rattle.rows.proofs.Bools.{clash, lt_is, eq_is, is_lt, is_eq}
 use Rattle.map.specs.Entity.{EntityRef, entity, compare_refs, same_ref, listed}
 use Rattle.changes.specs.declared.lists.Order.{Order}
 use Rattle.changes.specs.declared.lists.Order.TheVariants.{Before, Same, After}
@@ -14,8 +14,8 @@ use Rattle.changes.specs.Order.{order_of, firsts_of}
 use Rattle.changes.specs.ChangeFile.{is_before, rise_after, rising_refs, apart}
 use Rattle.changes.specs.ChangeSet.{insert_ref, sort_refs, without}
 use Rattle.changes.specs.Layout.{ref_at, refs_at}
-use Rattle.changes.specs.Walk.{refs_to, Walks, put_ref, written, Put}
-use Rattle.changes.proofs.Refs.{Earlier, by_kind, by_num, order_eq, order_lt, order_gt, before, earlier_trans, earlier_self, same_self, same_eq, listed-append, listed_sort, rise_later, rise_rising, sort_rising, rising_same}
+use Rattle.changes.specs.Walk.{refs_to}
+use Rattle.changes.proofs.Refs.{Earlier, order_eq, order_lt, order_gt, earlier_trans, earlier_self, same_self, same_eq, listed-append, listed_sort, rise_later, sort_rising, rising_same}
 
 -- ---- the order of two entries
 gt_is : (m n : ℕ) → n < m → compare m n ≡ Ordering.gt

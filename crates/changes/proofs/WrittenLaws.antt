@@ -1,14 +1,13 @@
 -- What writing entries leaves: the entries where they were written, and every other word.
-use mathlib.Core.Path.{◌≡◌, refl, sym, ap, ap₂, ◌∙◌}
+use mathlib.Core.Path.{◌≡◌, refl, ap₂, ◌∙◌}
 use mathlib.Core.List.{List, [], ◌∷◌}
 use Prim.Native.Nat.{ℕ, zero, suc, ◌+◌, ◌-◌, ◌*◌, ◌≤◌, ◌<◌}
 use native.Mathlib.Omega.{arith}
 use lib.ListN.{length, get_or, set, length-set}
 use lib.Seq.{get_or-set_same, get_or-set_other}
 use Rattle.map.specs.Entity.{EntityRef, entity}
-use Rattle.changes.specs.ChangeSet.{Warning}
 use Rattle.changes.specs.Layout.{ref_at, refs_at, warning_at, warnings_at}
-use Rattle.changes.specs.Walk.{refs_to, put_ref, written, Put}
+use Rattle.changes.specs.Walk.{refs_to, put_ref, written}
 use Rattle.changes.proofs.MergeLaws.{length-put_ref}
 use Rattle.changes.proofs.EntryLaws.{refs_at_lem}
 

@@ -1,6 +1,6 @@
 -- Change sets, `normalize` and the fold: edit/mod.rs.
-use Rattle.std.specs.Prelude.{ℕ, Bool, true, false, not, List, [], ◌∷◌, ◌++◌, length}
-use Rattle.std.proofs.Math.Option.{Option, none, some}
+use Rattle.std.specs.Prelude.{ℕ, not, List, [], ◌∷◌, ◌++◌, length}
+use Rattle.std.proofs.Math.Option.{Option}
 use Rattle.rows.specs.Lists.{keep, by_order}
 use Rattle.map.specs.Entity.{EntityRef, compare_refs, listed, open_entity}
 use Rattle.changes.specs.declared.Tally.{Tally}

@@ -1,11 +1,11 @@
 -- What a call is lent: the map, its running fold and the fold's tally. Which folds are refused, and the fold call.
-use Rattle.std.specs.Prelude.{ℕ, Bool, true, false, not, ◌&&◌, List, [], ◌∷◌, eqb, ltb, leb, length}
-use Rattle.refusal.specs.Answer.{Answer, refused, done, ◌>>=◌, ◌>>◌, refuse_when}
+use Rattle.std.specs.Prelude.{ℕ, Bool, not, ◌&&◌, List, [], ◌∷◌, eqb, ltb, leb, length}
+use Rattle.refusal.specs.Answer.{Answer, done, ◌>>=◌, ◌>>◌, refuse_when}
 use Rattle.rows.specs.Lists.{every, no_entries}
 use Rattle.map.specs.Record.{Map}
 use Rattle.map.specs.Entity.{EntityRef, has}
 use Rattle.changes.specs.declared.Tally.{Tally}
-use Rattle.changes.specs.ChangeSet.{Warning, ChangeSet, no_changes, fold_step, tally_of}
+use Rattle.changes.specs.ChangeSet.{ChangeSet, no_changes, fold_step, tally_of}
 use Rattle.changes.specs.ChangeFile.{max_entries, lists_ok, open_change_file}
 
 pub record State : Type 0 where

@@ -1,7 +1,7 @@
 -- A table that is passed over.
 use Prim.Native.Nat.{ℕ, zero, suc, ◌+◌, ◌-◌, ◌*◌, ◌^◌, ◌≤◌, ◌<◌}
 use mathlib.Core.Path.{◌≡◌, refl, sym, ap, ◌∙◌, subst}
-use mathlib.Core.Bool.{Bool, true, false, ◌&&◌, cond}
+use mathlib.Core.Bool.{true, false, ◌&&◌, cond}
 use mathlib.Core.List.{List, [], ◌∷◌, ◌++◌, append_assoc, append-nil}
 use native.Mathlib.Omega.{arith}
 use native.Mathlib.Numerals.{add-one}
@@ -12,7 +12,7 @@ use borrow.Author.Tests.{le-leb, lt-leb, lt-ltb, le-ltb}
 use Rattle.rows.specs.Lists.{list_to, total}
 use Rattle.rows.specs.Table.{rising}
 use Rattle.rows.proofs.Indexed.{list_to_same}
-use Rattle.codec.specs.Format.{Bytes, Read, fault, got, and_then, Format, only, read_items, no_got}
+use Rattle.codec.specs.Format.{Bytes, Read, fault, got, and_then, only, read_items, no_got}
 use Rattle.codec.specs.Items.{list}
 use Rattle.map.specs.MapFile.{table}
 use Rattle.store.specs.Layout.{limit_of, width_of, coord_width_of}
@@ -23,7 +23,6 @@ use Rattle.fields.specs.declared.Place.TheVariants as P
 use Rattle.fields.proofs.Places.{onto, Listed, listed_starts, listed-all, listed_more, listed_ends}
 use Rattle.records.specs.Records.{Rec, record_form, record_in, RowRead}
 use Rattle.checking.specs.Checking.{record_num, record_points, points_in, table_form, seen, TableChecked}
-use Rattle.checking.specs.declared.Checked.{Checked}
 use Rattle.checking.proofs.PointLaws.{points_are, points_few, num_is}
 
 -- ---- a list, tested, and what is kept of it

@@ -1,26 +1,25 @@
 -- The points of a row.
 use Prim.Native.Nat.{ℕ, zero, suc, ◌+◌, ◌-◌, ◌*◌, ◌^◌, ◌≤◌, ◌<◌}
-use mathlib.Core.Path.{◌≡◌, refl, sym, ap, ◌∙◌}
-use mathlib.Core.Bool.{Bool, true, false, not, ◌&&◌, cond}
+use mathlib.Core.Path.{◌≡◌, refl, sym, ◌∙◌}
+use mathlib.Core.Bool.{Bool, true, false, ◌&&◌, cond}
 use mathlib.Core.Option.{Option, none, some}
 use mathlib.Core.List.{List}
 use native.Mathlib.Omega.{arith}
-use lib.Dec.{eqb, leb}
+use lib.Dec.{eqb}
 use lib.Ieee.{Float}
 use lib.ListN.{length, get_or}
 use borrow.Author.Tests.{eq-eqb, ne_eqb, leb-true}
 use Rattle.rows.proofs.Indexed.{length-list_to}
 use Rattle.rows.proofs.Bools.{parts}
-use Rattle.codec.specs.Format.{Format, ◌⊗◌, via, both, tagged}
-use Rattle.codec.specs.Number.{number, split}
-use Rattle.codec.specs.Items.{below, list, option, from}
+use Rattle.codec.specs.Format.{◌⊗◌, via, both, tagged}
+use Rattle.codec.specs.Number.{number}
+use Rattle.codec.specs.Items.{option, from}
 use Rattle.codec.proofs.Fits.{list_few, fits_option}
 use Rattle.geometry.specs.Polyline.{Polyline}
 use Rattle.map.specs.Record.{RuleBody, light, sign, marking, right_of_way, crossing, other}
 use Rattle.map.specs.Ceilings.{size_of, lane_points, line_string_points, signal_points, crosswalk_points, rule_points, body_points}
-use Rattle.map.specs.MapFile.{polyline, point, boundary_ref, height, bulb, lane, line_string, signal, crosswalk, numbers, fields, body, rule}
+use Rattle.map.specs.MapFile.{polyline, point, lane, line_string, signal, crosswalk, body, rule}
 use Rattle.map.specs.Tables.{flag_at, option_at, line_at, body_of, lane_in, line_string_in, signal_in, crosswalk_in, rule_in}
-use Rattle.store.specs.Layout.{width_of}
 use Rattle.records.specs.Records.{Rec, record_form, record_in}
 use Rattle.checking.specs.Checking.{record_num, record_points, points_in}
 

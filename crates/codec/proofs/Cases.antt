@@ -1,10 +1,9 @@
 -- Numbers of every length, and what is no number: a longer form, an end too soon, 2 ^ 64, a byte that is none.
 use Prim.Native.Nat.{ℕ, ◌+◌}
 use mathlib.Core.Path.{◌≡◌, refl}
-use mathlib.Core.Bool.{Bool, true, false}
-use mathlib.Core.List.{List, [], ◌∷◌, map}
+use mathlib.Core.Bool.{false}
+use mathlib.Core.List.{[], ◌∷◌, map}
 use native.Mathlib.Omega.{arith}
-use lib.ListN.{length}
 use lib.IntN.{pos}
 use lib.Ieee.{fin, binary64, of_bits, to_bits}
 use Rattle.codec.specs.Format

@@ -1,8 +1,8 @@
 -- Doubles in a slice: what the loops over eight bytes keep, and what they come to.
 use Prim.Native.Nat.{ℕ, zero, suc, ◌+◌, ◌-◌, ◌*◌, ◌/◌, ◌%◌, ◌^◌, ◌≤◌, ◌<◌}
 use mathlib.Core.Path.{◌≡◌, refl, sym, ap, ◌∙◌}
-use mathlib.Core.Bool.{Bool, true, false, not, cond}
-use mathlib.Core.List.{List, [], ◌∷◌, ◌++◌}
+use mathlib.Core.Bool.{true, not}
+use mathlib.Core.List.{[], ◌∷◌, ◌++◌}
 use native.Mathlib.Omega.{arith}
 use native.Mathlib.Nat.{pow-suc, pow-le-pow_right}
 use native.Mathlib.Numerals.{add-one}
@@ -12,7 +12,7 @@ use lib.Seq.{drop-cons, sets}
 use lib.Ieee.{Float, binary64, of_bits, to_bits, is_nan, nan_bits, fits}
 use lib.Ieee.Bits.{nan_bits_is, nan_bits_above}
 use borrow.Author.Tests.{lt-ltb, le-ltb}
-use Rattle.codec.specs.Format.{Bytes, Read, fault, got, and_then, both}
+use Rattle.codec.specs.Format.{Bytes, fault, got, both}
 use Rattle.codec.specs.Number.{split}
 use Rattle.codec.specs.Double.{low_bytes, read_low, double, holds}
 use Rattle.codec.specs.Answers.{DoubleRead}

@@ -1,16 +1,16 @@
 -- Whole numbers in a slice: what the loops of `read_number` and `write_number` keep, and how it goes on.
 use Prim.Native.Nat.{ℕ, zero, suc, ◌+◌, ◌-◌, ◌*◌, ◌/◌, ◌%◌, ◌^◌, ◌≤◌, ◌<◌}
 use mathlib.Core.Path.{◌≡◌, refl, sym, ap, ◌∙◌}
-use mathlib.Core.Bool.{Bool, true, false, ◌||◌, cond}
-use mathlib.Core.List.{List, [], ◌∷◌, ◌++◌}
+use mathlib.Core.Bool.{◌||◌}
+use mathlib.Core.List.{[], ◌∷◌, ◌++◌}
 use native.Mathlib.Omega.{arith}
-use native.Mathlib.Nat.{pow-suc, pow-le-pow_right, mul-le-mul_right, one-le-pow}
+use native.Mathlib.Nat.{pow-suc, pow-le-pow_right, mul-le-mul_right}
 use native.Mathlib.Numerals.{add-one}
-use lib.Dec.{ltb, leb}
+use lib.Dec.{ltb}
 use lib.ListN.{length, get_or, drop, set, length-set, length-append, length-drop, drop_of_length-le}
 use lib.Seq.{drop-cons, sets}
-use borrow.Author.Tests.{lt-ltb, le-ltb, ltb-true, ltb-false}
-use Rattle.codec.specs.Format.{Bytes, Read, fault, got}
+use borrow.Author.Tests.{lt-ltb, le-ltb, ltb-true}
+use Rattle.codec.specs.Format.{Bytes, fault, got}
 use Rattle.codec.specs.Answers.{NumberRead, Wrote}
 use Rattle.codec.specs.Number.{number, groups, groups_from, last_group, split}
 use Rattle.codec.specs.declared.Number.TheVariants as N

@@ -1,9 +1,8 @@
 -- A whole number in groups of seven bits: low group first, the top bit set on every byte but the last, the shortest form only, up to 2 ^ 64 - 1.
-use Rattle.std.specs.Prelude.{ℕ, zero, suc, ◌+◌, ◌*◌, ◌/◌, ◌%◌, ◌^◌, ◌≤◌, ◌<◌, ◌≡◌, refl, Bool, true, false, not, ◌&&◌, ◌||◌, cond, List, [], ◌∷◌, ◌++◌, ltb, leb, eqb}
-use Rattle.std.proofs.Common.{sym, ap, ◌∙◌, arith, mul_assoc, mul_right_comm, add-mul, pow-suc, mul-one, zero-add, lt-ltb, le-ltb, le-leb, ltb-true, ltb-false, leb-true, leb-false, ne_eqb, eq-eqb, eqb-true}
+use Rattle.std.specs.Prelude.{ℕ, zero, suc, ◌+◌, ◌*◌, ◌/◌, ◌%◌, ◌^◌, ◌≤◌, ◌<◌, ◌≡◌, refl, Bool, true, false, ◌&&◌, ◌||◌, cond, [], ◌∷◌, ◌++◌, ltb}
+use Rattle.std.proofs.Common.{sym, ap, ◌∙◌, arith, mul_assoc, mul_right_comm, add-mul, pow-suc, lt-ltb, le-ltb, ltb-true, ltb-false}
 use Rattle.std.proofs.Math.Nat.{div-add-mod}
-use Rattle.std.proofs.lemmas.Bool.{lt-leb, eqb-false}
-use Rattle.codec.specs.Format.{Bytes, Read, fault, got, and_then, Format, no_got, no_true, both, same_value, same_rest, passed}
+use Rattle.codec.specs.Format.{Bytes, Read, fault, got, Format, no_got, same_value, same_rest, passed}
 
 -- n in at most k groups of seven bits
 unfoldable pub groups : ℕ → ℕ → Bytes

@@ -1,22 +1,22 @@
 -- Closed cases beside the table: the station examples, the full map, the four slips, and each refusal from 9 to 13 in its place in the order.
 use Prim.Native.Nat.{ℕ, ◌+◌, ◌^◌, ◌-◌}
 use mathlib.Core.Path.{◌≡◌, refl}
-use mathlib.Core.Bool.{Bool, true, false}
-use mathlib.Core.Option.{Option, none, some}
+use mathlib.Core.Bool.{true, false}
+use mathlib.Core.Option.{none, some}
 use mathlib.Core.List.{List, [], ◌∷◌, ◌++◌, map}
-use lib.Ieee.{Float, neg, nan, inf}
+use lib.Ieee.{Float, neg, nan}
 use Rattle.refusal.specs.Answer.{Answer, refused, done}
 use Rattle.rows.specs.Lists.{list_to, same_list}
 use Rattle.geometry.specs.Double.{whole, decimal, f0, f1}
-use Rattle.geometry.specs.Point.{at3, origin}
+use Rattle.geometry.specs.Point.{at3}
 use Rattle.codec.specs.Format
 use Rattle.codec.specs.Format.{Bytes}
 use Rattle.map.specs.declared.SignalKind.TheVariants.{Vehicle}
 use Rattle.map.specs.declared.BulbColor.TheVariants.{Red}
 use Rattle.map.specs.declared.BulbArrow.TheVariants.{NoArrow}
-use Rattle.map.specs.Record.{Map, LineString, RuleBody, light, sign, marking, right_of_way, crossing, other, Rule}
+use Rattle.map.specs.Record.{Map, RuleBody, light, sign, marking, right_of_way, crossing, other, Rule}
 use Rattle.map.specs.MapFile.{rule}
-use Rattle.map.specs.Entity.{EntityRef, entity}
+use Rattle.map.specs.Entity.{entity}
 use Rattle.map.specs.Rows.{with_rules}
 use Rattle.changes.specs.ChangeSet.{ChangeSet, no_changes}
 use Rattle.changes.specs.ChangeFile.{change_file}
@@ -25,10 +25,9 @@ use Rattle.place.specs.declared.Placement.{Placement}
 use Rattle.place.specs.declared.Placement.TheVariants.{AtLaneEnd, AtStation, Given}
 use Rattle.place.specs.EndNames.{ends_words}
 use Rattle.edit.specs.declared.StopRule.{StopRule}
-use Rattle.edit.specs.declared.StopRule.TheVariants.{StopSign, Marking, NoRule}
+use Rattle.edit.specs.declared.StopRule.TheVariants.{StopSign, NoRule}
 use Rattle.edit.specs.declared.StopLineChoice.{StopLineChoice}
 use Rattle.edit.specs.declared.StopLineChoice.TheVariants.{Automatic, Existing, New, NoLine}
-use Rattle.edit.specs.declared.SignalBulb.{SignalBulb}
 use Rattle.edit.specs.Edit.{Outcome}
 use Rattle.edit.specs.StopLine.{add_stop_line, open_stop_line}
 use Rattle.edit.specs.Light.{NewTrafficSignal, add_traffic_signal, open_light}

@@ -2,7 +2,7 @@
 use Prim.Native.Nat.{ℕ}
 use mathlib.Core.Path.{◌≡◌, refl, sym, ap₂}
 use mathlib.Core.Bool.{Bool, true, false, ◌&&◌, true≢false}
-use mathlib.Core.Option.{Option, none, some}
+use mathlib.Core.Option.{none}
 use mathlib.Core.List.{List, [], ◌∷◌, ◌++◌, map}
 use lib.Dec.{eqb}
 use lib.IntN.{negsuc}
@@ -19,9 +19,8 @@ use Rattle.codec.specs.Format.{Bytes, Read, fault, got}
 use Rattle.codec.specs.Number.{number}
 use Rattle.codec.specs.Items.{list}
 use Rattle.map.specs.declared.SignalKind.TheVariants.{Vehicle}
-use Rattle.map.specs.Record.{Map, LineString, Signal}
+use Rattle.map.specs.Record.{LineString, Signal}
 use Rattle.map.specs.MapFile.{line_string}
-use Rattle.changes.specs.ChangeSet.{ChangeSet}
 use Rattle.changes.specs.ChangeFile.{change_file}
 use Rattle.changes.specs.Running.{State, opening}
 use Rattle.place.specs.declared.Placement.TheVariants.{AtLaneEnd}

@@ -1,7 +1,7 @@
 -- What an edit comes to, and the call around it: the checks before all else, and those that come last.
-use Rattle.std.specs.Prelude.{ℕ, ◌^◌, Bool, true, false, not, ◌&&◌, List, [], ◌∷◌, leb}
+use Rattle.std.specs.Prelude.{ℕ, ◌^◌, not, ◌&&◌, List, [], ◌∷◌, leb}
 use Rattle.std.proofs.Math.Option.{Option}
-use Rattle.refusal.specs.Answer.{Answer, refused, done, ◌>>=◌, ◌>>◌, refuse_when}
+use Rattle.refusal.specs.Answer.{Answer, done, ◌>>=◌, ◌>>◌, refuse_when}
 use Rattle.rows.specs.Lists.{every}
 use Rattle.geometry.specs.declared.Point3.{Point3}
 use Rattle.geometry.specs.Point.{point_on_map}

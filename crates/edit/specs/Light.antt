@@ -1,5 +1,5 @@
 -- `add_traffic_signal`: all tests in their order (`light_plan`), and then what it does (`light_draft`).
-use Rattle.std.specs.Prelude.{ℕ, ◌≡◌, refl, Bool, true, false, not, ◌&&◌, cond, List, [], ◌∷◌, ◌++◌, map, eqb, length, get_or, Float}
+use Rattle.std.specs.Prelude.{ℕ, ◌≡◌, refl, Bool, false, not, ◌&&◌, cond, List, [], ◌∷◌, ◌++◌, map, eqb, length, get_or, Float}
 use Rattle.std.proofs.Math.Option.{Option, none, some}
 use Rattle.std.specs.Float.{binary64}
 use Rattle.std.specs.Float.Ieee.{lt, of_bits, to_bits, of_int, round}

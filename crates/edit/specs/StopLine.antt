@@ -1,11 +1,11 @@
 -- `add_stop_line`.
 use Rattle.std.specs.Prelude.{ℕ, List, [], ◌∷◌, ◌++◌, Float}
 use Rattle.std.proofs.Math.Option.{Option, none, some}
-use Rattle.refusal.specs.Answer.{Answer, refused, done, ◌>>=◌, ◌>>◌}
+use Rattle.refusal.specs.Answer.{Answer, done, ◌>>=◌, ◌>>◌}
 use Rattle.map.specs.Record.{RuleBody, sign, marking, Map}
 use Rattle.map.specs.Entity.{entity}
 use Rattle.map.specs.Rows.{fresh, with_line, with_rule}
-use Rattle.changes.specs.ChangeSet.{ChangeSet, Warning, warning}
+use Rattle.changes.specs.ChangeSet.{warning}
 use Rattle.changes.specs.Running.{State}
 use Rattle.place.specs.declared.Placement.{Placement}
 use Rattle.edit.specs.declared.StopRule.{StopRule}

@@ -1,18 +1,16 @@
 -- A signal's bulbs.
-use Prim.Native.Nat.{ℕ, zero, suc, ◌+◌, ◌-◌, ◌*◌, ◌≤◌, ◌<◌}
-use mathlib.Core.Path.{◌≡◌, refl, sym, ap, ◌∙◌}
-use mathlib.Core.Logic.{inl, inr}
+use Prim.Native.Nat.{ℕ, ◌+◌, ◌-◌, ◌*◌, ◌≤◌, ◌<◌}
+use mathlib.Core.Path.{◌≡◌, ◌∙◌}
+use mathlib.Core.Logic.{inl}
 use mathlib.Core.List.{List, []}
 use native.Mathlib.Omega.{arith}
 use lib.Ieee.{Float, nan}
 use lib.ListN.{length, get_or}
-use Rattle.rows.specs.Lists.{list_to}
-use Rattle.codec.specs.Format.{Bytes, Format, ◌⊗◌, via}
-use Rattle.codec.specs.Items.{below, list}
-use Rattle.map.specs.Record.{Bulb}
+use Rattle.codec.specs.Format.{Bytes, ◌⊗◌}
+use Rattle.codec.specs.Items.{below}
 use Rattle.map.specs.MapFile.{point, bulb}
 use Rattle.map.specs.Tables.{point_from, bulb_at}
-use Rattle.fields.specs.Fields.{read_at, got_at, Changed, range, Word, Cells, BulbAt, Bulbs, bulb_from}
+use Rattle.fields.specs.Fields.{read_at, got_at, Changed, Word, Cells, BulbAt, Bulbs}
 use Rattle.fields.specs.declared.Place.{Place}
 use Rattle.fields.proofs.Places.{unchanged, changed_both, place_then, place_via, range_below, onto, Listed, listed_starts, listed-all, listed_more, listed_ends}
 

@@ -1,21 +1,18 @@
 -- Options: a flag, and what follows where it says yes.
-use Prim.Native.Nat.{ℕ, zero, suc, ◌+◌, ◌≤◌, ◌<◌}
-use mathlib.Core.Path.{◌≡◌, refl, sym, ap, ◌∙◌}
-use mathlib.Core.Logic.{inl, inr}
-use mathlib.Core.Bool.{Bool, true, false, not, cond}
-use mathlib.Core.Option.{none, some}
+use Prim.Native.Nat.{ℕ, ◌+◌, ◌≤◌, ◌<◌}
+use mathlib.Core.Path.{◌≡◌, sym, ◌∙◌}
+use mathlib.Core.Logic.{inl}
+use mathlib.Core.Bool.{true, false}
 use mathlib.Core.List.{List}
 use native.Mathlib.Omega.{arith}
-use lib.Dec.{eqb}
-use lib.Ieee.{Float, nan}
-use lib.ListN.{length, get_or}
+use lib.Ieee.{Float}
+use lib.ListN.{get_or}
 use borrow.Author.Tests.{eq-eqb, ne_eqb}
 use Rattle.codec.specs.Format.{Bytes, no_true}
 use Rattle.codec.specs.Number.{number}
-use Rattle.codec.specs.Items.{option}
 use Rattle.map.specs.MapFile.{height, polyline}
-use Rattle.map.specs.Tables.{flag_at, option_at, line_at}
-use Rattle.fields.specs.Fields.{read_at, got_at, Changed, range, largest, Word, Cells, cell_at, Line, OptionLine, OptionNumber, OptionHeight}
+use Rattle.map.specs.Tables.{flag_at}
+use Rattle.fields.specs.Fields.{Changed, largest, Word, Cells, cell_at, Line, OptionLine, OptionNumber, OptionHeight}
 use Rattle.fields.specs.declared.Place.{Place}
 use Rattle.fields.proofs.Places.{unchanged, changed_both, range_any, option_none, option_some}
 

@@ -1,30 +1,27 @@
 -- Coordinates, points and polylines, read into a row.
-use Prim.Native.Nat.{ℕ, zero, suc, ◌+◌, ◌-◌, ◌*◌, ◌^◌, ◌≤◌, ◌<◌}
-use mathlib.Core.Path.{◌≡◌, refl, sym, ap, ◌∙◌}
-use mathlib.Core.Logic.{◌⊎◌, inl, inr, ⊎_elim}
-use mathlib.Core.Bool.{Bool, true, false, not, ◌&&◌, ◌||◌, cond}
+use Prim.Native.Nat.{ℕ, ◌+◌, ◌-◌, ◌*◌, ◌^◌, ◌≤◌, ◌<◌}
+use mathlib.Core.Path.{◌≡◌, refl, sym, ◌∙◌}
+use mathlib.Core.Logic.{◌⊎◌, inl, ⊎_elim}
+use mathlib.Core.Bool.{Bool, true, false, not, ◌&&◌, ◌||◌}
 use mathlib.Core.List.{List, [], ◌∷◌}
 use native.Mathlib.Omega.{arith}
-use native.Mathlib.Numerals.{add-one}
-use lib.Dec.{leb, ltb, eqb}
-use lib.ListN.{length, get_or, drop, set, length-set}
-use lib.Seq.{get_or-set_same, get_or-set_other, set-set}
+use lib.Dec.{eqb}
+use lib.ListN.{length, get_or, drop, set}
+use lib.Seq.{get_or-set_same}
 use lib.Ieee.{Float, nan, inf, fin, binary64, of_bits, is_nan, fits, le, lt, eq, neg, up, down}
 use lib.IntN.{ℤ}
 use lib.Ieee.Fits.{down_pos}
-use borrow.Author.Tests.{le-leb, lt-leb, lt-ltb, le-ltb, eq-eqb, ne_eqb, eqb-true, eqb-false}
-use Rattle.rows.specs.Lists.{list_to}
-use Rattle.codec.specs.Format.{Bytes, Read, fault, got, and_then, Format, only, via, ◌⊗◌, both, no_true}
+use borrow.Author.Tests.{lt-ltb, eq-eqb, ne_eqb, eqb-true, eqb-false}
+use Rattle.codec.specs.Format.{Bytes, fault, got, only, ◌⊗◌, both, no_true}
 use Rattle.codec.specs.Number.{split}
 use Rattle.codec.specs.Double.{double}
 use Rattle.codec.specs.Answers.{DoubleRead}
 use Rattle.codec.specs.declared.Double.{Double}
 use Rattle.codec.specs.declared.Double.TheVariants as D
 use Rattle.geometry.specs.Double.{on_map, is_finite, absolute, farthest}
-use Rattle.geometry.specs.Point.{at3}
 use Rattle.map.specs.MapFile.{coordinate, height, point, polyline}
 use Rattle.map.specs.Tables.{point_from, line_at}
-use Rattle.fields.specs.Fields.{read_at, got_at, Changed, range, Word, Cells, cell_at, Line}
+use Rattle.fields.specs.Fields.{read_at, got_at, Changed, Word, Cells, cell_at, Line}
 use Rattle.fields.specs.declared.Place.{Place}
 use Rattle.fields.specs.declared.Place.TheVariants as P
 use Rattle.fields.proofs.Places.{unchanged, changed_at, changed_both, place_then, place_via, onto, Listed, listed_starts, listed-all, listed_more, listed_ends}

@@ -1,26 +1,21 @@
 -- Words and lists of words, read into a row.
-use Prim.Native.Nat.{ℕ, zero, suc, ◌+◌, ◌-◌, ◌*◌, ◌^◌, ◌≤◌, ◌<◌}
-use mathlib.Core.Path.{◌≡◌, refl, sym, ap, ◌∙◌}
-use mathlib.Core.Logic.{◌⊎◌, inl, inr, ⊎_elim}
-use mathlib.Core.Bool.{Bool, true, false, not, ◌&&◌, cond}
+use Prim.Native.Nat.{ℕ, ◌+◌, ◌-◌, ◌*◌, ◌^◌, ◌≤◌, ◌<◌}
+use mathlib.Core.Path.{◌≡◌, ◌∙◌}
+use mathlib.Core.Logic.{◌⊎◌, inl, ⊎_elim}
+use mathlib.Core.Bool.{◌&&◌}
 use mathlib.Core.List.{List, [], ◌∷◌}
 use native.Mathlib.Omega.{arith}
-use native.Mathlib.Numerals.{add-one}
-use lib.Dec.{leb}
-use lib.ListN.{length, get_or, drop, set, length-set}
-use lib.Seq.{get_or-set_same, get_or-set_other, set-set}
+use lib.ListN.{length, get_or, set}
+use lib.Seq.{get_or-set_same, set-set}
 use borrow.Author.Tests.{le-leb, lt-leb}
-use Rattle.rows.specs.Lists.{list_to}
-use Rattle.rows.proofs.Indexed.{list_to_same}
-use Rattle.codec.specs.Format.{Bytes, Read, fault, got, and_then, Format, only}
+use Rattle.codec.specs.Format.{Bytes, fault, only}
 use Rattle.codec.specs.Number.{number}
-use Rattle.codec.specs.Items.{list}
 use Rattle.codec.specs.Answers.{NumberRead}
 use Rattle.codec.specs.declared.Number.{Number}
 use Rattle.codec.specs.declared.Number.TheVariants as N
 use Rattle.map.specs.MapFile.{numbers}
 use Rattle.map.specs.Tables.{list_at}
-use Rattle.fields.specs.Fields.{read_at, got_at, Changed, range, largest, Word, Numbers}
+use Rattle.fields.specs.Fields.{read_at, Changed, range, largest, Word, Numbers}
 use Rattle.fields.specs.declared.Place.{Place}
 use Rattle.fields.specs.declared.Place.TheVariants as P
 use Rattle.fields.proofs.Places.{unchanged, changed_at, changed_both, range_any, onto, Listed, listed_starts, listed-all, listed_more, listed_ends}

@@ -1,12 +1,12 @@
 -- Where a reader stands, and what it has put into a row. A row is a list of words and a list of coordinates.
-use Rattle.std.specs.Prelude.{ℕ, zero, suc, ◌+◌, ◌*◌, ◌^◌, ◌≤◌, ◌<◌, ◌≡◌, ◌⊎◌, Bool, true, false, ◌&&◌, List, leb, Float, length, get_or, drop}
+use Rattle.std.specs.Prelude.{ℕ, ◌+◌, ◌*◌, ◌^◌, ◌≤◌, ◌<◌, ◌≡◌, ◌⊎◌, true, ◌&&◌, List, leb, Float, length, get_or, drop}
 use Rattle.std.specs.Float.{nan}
 use Rattle.codec.specs.Format.{Bytes, Read, fault, got, Format, only}
 use Rattle.codec.specs.Number.{number}
 use Rattle.rows.specs.Lists.{list_to}
 use Rattle.codec.specs.Items.{list, option}
 use Rattle.map.specs.Record.{Bulb}
-use Rattle.map.specs.MapFile.{coordinate, height, point, polyline, numbers, bulb}
+use Rattle.map.specs.MapFile.{height, polyline, numbers, bulb}
 use Rattle.map.specs.Tables.{flag_at, option_at, list_at, point_from, line_at, bulb_at}
 use Rattle.fields.specs.declared.Place.{Place}
 use Rattle.fields.specs.declared.Place.TheVariants as P

@@ -1,10 +1,9 @@
 -- Closed cases: the worked map's file, and bytes that are no file, refused whole.
-use Prim.Native.Nat.{ℕ, suc, ◌+◌}
+use Prim.Native.Nat.{ℕ, ◌+◌}
 use mathlib.Core.Path.{◌≡◌, refl}
 use mathlib.Core.Bool.{Bool, true, false, ◌&&◌}
-use mathlib.Core.Option.{Option, none, some}
-use mathlib.Core.List.{List, [], ◌∷◌, ◌++◌, map}
-use lib.Dec.{eqb}
+use mathlib.Core.Option.{none}
+use mathlib.Core.List.{[], ◌∷◌, ◌++◌, map}
 use lib.ListN.{length, take, drop}
 use lib.Ieee.{neg}
 use Rattle.refusal.specs.Answer.{Answer, refused, done}

@@ -1,30 +1,26 @@
 -- A map file that is opened: read, with an empty fold; 12 comes before 13.
 use Prim.Native.Nat.{ℕ}
-use mathlib.Core.Path.{◌≡◌, refl, sym, ap, ◌∙◌}
-use mathlib.Core.Bool.{Bool, true, false, not, ◌&&◌}
+use mathlib.Core.Path.{◌≡◌, refl, sym, ◌∙◌}
+use mathlib.Core.Bool.{Bool, true, false, ◌&&◌}
 use mathlib.Core.Option.{Option, none, some}
 use mathlib.Core.List.{List, []}
-use lib.Dec.{eqb}
 use lib.Ieee.{Float}
 use lib.ListN.{length}
 use borrow.Author.Tests.{eq-eqb, ne_eqb}
-use Rattle.refusal.specs.Answer.{Answer, refused, done, refused_as, present, ◌>>=◌, ◌>>◌, refuse_when}
+use Rattle.refusal.specs.Answer.{Answer, refused, refused_as, present, ◌>>=◌, ◌>>◌}
 use Rattle.refusal.specs.declared.Refusal.{Refusal}
 use Rattle.refusal.specs.declared.Refusal.TheVariants.{BadMap, BadSet}
 use Rattle.codec.specs.Format.{Bytes, file_of, no_true}
 use Rattle.map.specs.Record.{Map}
 use Rattle.map.specs.MapFile.{map_file}
-use Rattle.map.specs.Tables.{map_of}
 use Rattle.mapfile.specs.MapBytes.{is_there, is_map_file}
 use Rattle.building.specs.Build.{Cleared}
-use Rattle.changes.specs.declared.Tally.{Tally}
-use Rattle.changes.specs.Running.{State, opening}
+use Rattle.changes.specs.Running.{State}
 use Rattle.files.specs.Files.{read_map}
-use Rattle.files.specs.ReadInto.{map_read, read_into, MapReadInto}
+use Rattle.files.specs.ReadInto.{MapReadInto}
 use Rattle.files.specs.OpenInto.{open_into, MapOpened}
 use Rattle.files.specs.declared.MapRead.{MapRead}
 use Rattle.files.specs.declared.MapRead.TheVariants as R
-use Rattle.files.specs.declared.Opened.{Opened}
 use Rattle.files.specs.declared.Opened.TheVariants as O
 use Rattle.files.proofs.ReadLaws.{words_wrong, coords_wrong, file_wrong}
 

@@ -1,33 +1,29 @@
 -- A map file, tested and then loaded, stands in the tables as the map that it is.
 use Prim.Native.Nat.{ℕ, ◌≤◌}
 use mathlib.Core.Path.{◌≡◌, refl, sym, ap, ◌∙◌}
-use mathlib.Core.Bool.{Bool, true, false, not, ◌&&◌, cond}
+use mathlib.Core.Bool.{Bool, true, false, ◌&&◌}
 use mathlib.Core.Option.{Option, none, some}
 use mathlib.Core.List.{List, [], ◌∷◌, ◌++◌, append-nil}
-use native.Mathlib.Omega.{arith}
-use lib.Dec.{eqb}
 use lib.Ieee.{Float}
-use lib.ListN.{length, drop}
+use lib.ListN.{length}
 use borrow.Author.Tests.{eq-eqb, ne_eqb}
-use Rattle.refusal.specs.Answer.{Answer, refused, done, present, refuse_when, ◌>>◌}
+use Rattle.refusal.specs.Answer.{refused, done, present, ◌>>◌}
 use Rattle.refusal.specs.declared.Refusal.TheVariants.{BadMap}
 use Rattle.rows.specs.Table.{rising}
-use Rattle.codec.specs.Format.{Bytes, Read, fault, got, and_then, Format, ◌⊗◌, only, via, tagged, file_of, file_back, no_got, no_true, both, and, same_value}
+use Rattle.codec.specs.Format.{Bytes, got, Format, ◌⊗◌, only, via, tagged, file_of, file_back, no_got, no_true, both, and, same_value}
 use Rattle.codec.specs.Number.{number}
 use Rattle.codec.specs.Items.{list}
 use Rattle.map.specs.Record.{Lane, LineString, Signal, Crosswalk, Rule, Map}
 use Rattle.map.specs.MapFile.{lane, line_string, signal, crosswalk, rule, table, tables, map_file, is_map}
 use Rattle.map.specs.Tables.{map_of}
-use Rattle.map.proofs.Parts.{Parts, map-parts}
-use Rattle.store.specs.Layout.{all_words, all_coords}
+use Rattle.map.proofs.Parts.{map-parts}
 use Rattle.fields.specs.Fields.{got_at}
 use Rattle.fields.specs.declared.Place.{Place}
 use Rattle.fields.specs.declared.Place.TheVariants as P
 use Rattle.mapfile.specs.MapBytes.{is_there, is_map_file}
-use Rattle.mapload.specs.MapLoad.{mark_lists, line_lists, MapLoaded}
+use Rattle.mapload.specs.MapLoad.{line_lists, MapLoaded}
 use Rattle.files.specs.Files.{read_map}
-use Rattle.files.specs.ReadInto.{map_read, read_into, MapReadInto}
-use Rattle.files.specs.declared.MapRead.{MapRead}
+use Rattle.files.specs.ReadInto.{MapReadInto}
 use Rattle.files.specs.declared.MapRead.TheVariants as R
 
 abbrev Loose : Type 0

@@ -3,8 +3,8 @@ use Prim.Native.Nat.{ℕ}
 use mathlib.Core.Path.{◌≡◌}
 use mathlib.Core.Bool.{true}
 use mathlib.Core.Option.{Option, none, some}
-use mathlib.Core.List.{List, []}
-use Rattle.refusal.specs.Answer.{Answer, refused, done, present}
+use mathlib.Core.List.{[]}
+use Rattle.refusal.specs.Answer.{done, present}
 use Rattle.codec.specs.Format
 use Rattle.codec.specs.Format.{Bytes, file_of, file_there, file_back, same_form_lem}
 use Rattle.map.specs.Record.{Map}

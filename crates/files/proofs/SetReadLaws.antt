@@ -1,21 +1,20 @@
 -- A set file loaded without a test of its order, and then tested, stands in the table as the set that it is.
-use Prim.Native.Nat.{ℕ, zero, suc, ◌+◌, ◌-◌, ◌≤◌, ◌<◌}
+use Prim.Native.Nat.{ℕ, ◌+◌, ◌-◌, ◌≤◌, ◌<◌}
 use mathlib.Core.Path.{◌≡◌, refl, sym, ap, ◌∙◌}
-use mathlib.Core.Bool.{Bool, true, false, not, ◌&&◌, cond}
+use mathlib.Core.Bool.{Bool, true, false, not, ◌&&◌}
 use mathlib.Core.Option.{Option, none, some}
 use mathlib.Core.List.{List, [], ◌∷◌, ◌++◌, append-nil}
 use native.Mathlib.Omega.{arith}
-use lib.Dec.{eqb}
 use lib.ListN.{length, drop, length-drop, drop_of_length-le}
 use borrow.Author.Tests.{eq-eqb, ne_eqb}
-use Rattle.refusal.specs.Answer.{Answer, refused, done, present, refuse_when, ◌>>◌}
+use Rattle.refusal.specs.Answer.{refused, done, present, ◌>>◌}
 use Rattle.refusal.specs.declared.Refusal.TheVariants.{BadSet}
 use Rattle.rows.specs.Rows.{pasted}
-use Rattle.rows.proofs.Bools.{parts, and_i, and_l, and_r, clash}
+use Rattle.rows.proofs.Bools.{parts, and_i}
 use Rattle.rows.proofs.RowLaws.{pasted-all}
-use Rattle.codec.specs.Format.{Bytes, Read, fault, got, Format, ◌⊗◌, only, via, file_of, file_there, file_back, no_got, no_true, same_value, same_rest}
+use Rattle.codec.specs.Format.{Bytes, got, ◌⊗◌, only, via, file_of, file_there, file_back, no_got, no_true, same_value, same_rest}
 use Rattle.changes.specs.ChangeSet.{Warning, ChangeSet}
-use Rattle.changes.specs.ChangeFile.{entry, entries, warnings, change_file, is_set}
+use Rattle.changes.specs.ChangeFile.{entries, warnings, change_file, is_set}
 use Rattle.changes.specs.Layout.{set_words, count_in, change_set_of, is_set_in}
 use Rattle.fields.specs.Fields.{got_at}
 use Rattle.fields.specs.declared.Place.{Place}
@@ -23,8 +22,7 @@ use Rattle.fields.specs.declared.Place.TheVariants as P
 use Rattle.map.specs.Entity.{EntityRef}
 use Rattle.setfile.specs.SetFile.{loose_set, lists_in, SetLoaded}
 use Rattle.files.specs.Files.{read_changes}
-use Rattle.files.specs.ReadInto.{read_set, ChangesReadInto}
-use Rattle.files.specs.declared.ChangesRead.{ChangesRead}
+use Rattle.files.specs.ReadInto.{ChangesReadInto}
 use Rattle.files.specs.declared.ChangesRead.TheVariants as C
 
 abbrev Loose : Type 0

@@ -1,25 +1,24 @@
 -- A form that is put into a buffer once its size is known to be there.
 use Prim.Native.Nat.{ℕ, ◌+◌, ◌^◌, ◌≤◌, ◌<◌}
-use mathlib.Core.Path.{◌≡◌, refl, sym, ap, ◌∙◌}
+use mathlib.Core.Path.{◌≡◌, refl, sym, ◌∙◌}
 use mathlib.Core.Bool.{Bool, true, false, not, ◌&&◌, cond}
 use mathlib.Core.List.{List, [], ◌∷◌, ◌++◌}
 use native.Mathlib.Omega.{arith}
-use lib.Dec.{ltb, leb, eqb}
+use lib.Dec.{ltb, eqb}
 use lib.Ieee.{Float}
-use lib.ListN.{length, take, drop}
-use lib.Seq.{sets, sets-eq}
-use borrow.Author.Tests.{lt-ltb, le-ltb, ltb-false, eq-eqb, eqb-true, leb-true}
+use lib.ListN.{length, drop}
+use lib.Seq.{sets-eq}
+use borrow.Author.Tests.{lt-ltb, le-ltb, ltb-false, leb-true}
 use Rattle.refusal.specs.Answer.{Answer, refused, done, ◌>>◌, refuse_when}
 use Rattle.refusal.specs.declared.Refusal.TheVariants.{BadMap, BadSet, ShortBuffer}
-use Rattle.rows.proofs.Bools.{parts, and_l, and_r, clash}
-use Rattle.codec.specs.Format.{Bytes, Format, ◌⊗◌, only, via}
+use Rattle.rows.proofs.Bools.{and_l, and_r, clash}
+use Rattle.codec.specs.Format.{Bytes, ◌⊗◌}
 use Rattle.codec.proofs.Fits.{list_few}
 use Rattle.fields.specs.declared.Place.{Place}
 use Rattle.fields.specs.declared.Place.TheVariants as P
 use Rattle.putting.specs.Putting.{ahead, PutAt}
 use Rattle.putting.proofs.PutLaws.{lost_place, same_place}
-use Rattle.changes.specs.ChangeSet.{ChangeSet}
-use Rattle.changes.specs.ChangeFile.{max_warnings, warning_form, warnings, entries, change_file, is_set, lists_ok}
+use Rattle.changes.specs.ChangeFile.{max_warnings, warning_form, warnings, change_file, is_set, lists_ok}
 use Rattle.changes.specs.Layout.{set_words, count_in, warnings_at, change_set_of, lists_ok_in, is_set_in}
 use Rattle.sets.proofs.TableLaws.{fits_ok}
 use Rattle.set_tests.proofs.SetLaws.{set-parts, length-warnings}
@@ -29,8 +28,7 @@ use Rattle.map.specs.MapFile.{map_file, is_map}
 use Rattle.map.specs.Tables.{map_of, is_map_tables}
 use Rattle.map.proofs.SoundLaws.{sound}
 use Rattle.files.specs.Files.{put_in, write_map, write_changes}
-use Rattle.files.specs.WriteOut.{written, FileWritten, write_set, ChangesWritten, write_tables, MapWritten}
-use Rattle.files.specs.declared.Written.{Written}
+use Rattle.files.specs.WriteOut.{FileWritten, write_set, ChangesWritten, write_tables, MapWritten}
 use Rattle.files.specs.declared.Written.TheVariants as W
 
 -- ---- the size, and the form in its place

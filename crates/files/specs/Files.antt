@@ -1,7 +1,6 @@
 -- Reading, writing and opening files.
-use Rattle.std.specs.Prelude.{ℕ, Bool, true, false, not, List, [], ◌∷◌, ◌++◌, ltb, length, drop}
-use Rattle.std.proofs.Math.Option.{Option, none, some}
-use Rattle.refusal.specs.Answer.{Answer, refused, done, ◌>>=◌, ◌>>◌, refuse_when, present}
+use Rattle.std.specs.Prelude.{ℕ, not, [], ◌∷◌, ◌++◌, ltb, length, drop}
+use Rattle.refusal.specs.Answer.{Answer, done, ◌>>=◌, ◌>>◌, refuse_when, present}
 use Rattle.codec.specs.Format
 use Rattle.codec.specs.Format.{Bytes, file_of}
 use Rattle.map.specs.Record.{Map}

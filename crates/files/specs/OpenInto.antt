@@ -1,6 +1,6 @@
 -- What opening a map file leaves in the lent tables, and the tally that it answers.
 use Rattle.std.specs.Prelude.{ℕ, ◌≡◌, not, List, [], eqb, Float, length}
-use Rattle.refusal.specs.Answer.{Answer, refused, done, refused_as, ◌>>=◌, ◌>>◌, refuse_when}
+use Rattle.refusal.specs.Answer.{Answer, done, refused_as, ◌>>=◌, ◌>>◌, refuse_when}
 use Rattle.codec.specs.Format.{Bytes}
 use Rattle.map.specs.Record.{Map}
 use Rattle.map.specs.Tables.{map_of}

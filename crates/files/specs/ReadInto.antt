@@ -1,6 +1,6 @@
 -- What reading a file into lent tables leaves.
-use Rattle.std.specs.Prelude.{ℕ, ◌≡◌, Bool, true, false, not, ◌&&◌, List, [], eqb, Float, length}
-use Rattle.refusal.specs.Answer.{Answer, refused, done, refused_as, ◌>>◌, refuse_when}
+use Rattle.std.specs.Prelude.{ℕ, ◌≡◌, not, ◌&&◌, List, [], eqb, Float, length}
+use Rattle.refusal.specs.Answer.{Answer, done, refused_as, ◌>>◌, refuse_when}
 use Rattle.codec.specs.Format.{Bytes}
 use Rattle.store.specs.Layout.{all_words, all_coords}
 use Rattle.map.specs.Record.{Map}

@@ -1,6 +1,6 @@
 -- What writing a file into a lent buffer leaves.
 use Rattle.std.specs.Prelude.{ℕ, ◌≡◌, not, ◌&&◌, List, [], eqb, Float, length}
-use Rattle.refusal.specs.Answer.{Answer, refused, done, refused_as, ◌>>◌, refuse_when}
+use Rattle.refusal.specs.Answer.{Answer, done, refused_as, ◌>>◌, refuse_when}
 use Rattle.codec.specs.Format.{Bytes}
 use Rattle.changes.specs.ChangeFile.{change_file}
 use Rattle.changes.specs.Layout.{set_words, change_set_of}

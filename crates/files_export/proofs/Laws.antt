@@ -1,12 +1,11 @@
 -- What the exported functions leave, from what the calls of `files` leave. Assumes nothing.
 use Prim.Native.Nat.{ℕ}
-use mathlib.Core.Path.{◌≡◌, refl, sym, ap, ◌∙◌}
+use mathlib.Core.Path.{◌≡◌, refl, ap, ◌∙◌}
 use mathlib.Core.List.{List, [], ◌∷◌}
 use lib.Ieee.{Float}
-use lib.ListN.{length}
 use Rattle.refusal.specs.declared.Refusal.{Refusal}
 use Rattle.refusal.specs.Refusal.{refusal_number}
-use Rattle.refusal.specs.Answer.{Answer, refused, done, refused_as}
+use Rattle.refusal.specs.Answer.{Answer}
 use Rattle.codec.specs.Format.{Bytes}
 use Rattle.changes.specs.declared.Tally.{Tally}
 use Rattle.tally_words.specs.Words.{tally_words}

@@ -20,7 +20,7 @@ use Rattle.map.specs.MapFile.{is_map}
 use Rattle.map.specs.Tables.{map_of, is_map_tables}
 use Rattle.map.proofs.SoundLaws.{Sound, sound}
 use Rattle.changes.specs.declared.Tally.{Tally}
-use Rattle.changes.specs.ChangeSet.{ChangeSet, normalize, fold_step, tally_of}
+use Rattle.changes.specs.ChangeSet.{normalize, fold_step, tally_of}
 use Rattle.changes.specs.ChangeFile.{lists_ok}
 use Rattle.changes.specs.Layout.{set_words, change_set_of, lists_ok_in}
 use Rattle.changes.specs.Running.{State, fold_ok, fold_fits}
@@ -29,7 +29,7 @@ use Rattle.edit.specs.declared.Called.TheVariants as c
 use Rattle.edit.specs.Edit.{Draft, Outcome, finish, call}
 use Rattle.place.specs.declared.MaybeEnds.{MaybeEnds}
 use Rattle.place.specs.Values.{maybe_ends}
-use Rattle.edit.specs.Lent.{Lent, state_of, lent_call, answered, is_refused, CallLeft}
+use Rattle.edit.specs.Lent.{Lent, state_of, lent_call, CallLeft}
 use Rattle.finishing.proofs.FreshLaws.{FoldBelow, fold_below}
 use Rattle.finishing.specs.Finish.{lent_checks, planned, settled, steps}
 

@@ -11,14 +11,14 @@ use Rattle.rows.specs.Lists.{every, total}
 use Rattle.rows.proofs.Bools.{parts, and_i}
 use Rattle.rows.proofs.Tables.{every_if}
 use Rattle.geometry.specs.Polyline.{Polyline}
-use Rattle.codec.specs.Format.{Format, ◌⊗◌, via, only}
-use Rattle.codec.specs.Items.{list, option}
+use Rattle.codec.specs.Format.{◌⊗◌, via}
+use Rattle.codec.specs.Items.{option}
 use Rattle.codec.proofs.Fits.{list_few, fits_option}
 use Rattle.map.specs.Record.{Lane, LineString, Signal, Crosswalk, RuleBody, Rule, Map}
-use Rattle.map.specs.Ceilings.{max_lanes, max_boundaries, max_stop_lines, max_signals, max_crosswalks, max_rules, max_line_points, max_points, max_bulbs, if_there, size_of, line_within, lane_within, line_string_within, signal_within, crosswalk_within, body_within, rule_within, lane_points, line_string_points, signal_points, crosswalk_points, body_points, rule_points, points, within_ceilings}
-use Rattle.map.specs.MapFile.{point, polyline, lane, line_string, bulb, signal, crosswalk, rule, is_map}
+use Rattle.map.specs.Ceilings.{max_lanes, max_boundaries, max_stop_lines, max_signals, max_crosswalks, max_rules, max_line_points, max_points, max_bulbs, if_there, line_within, lane_within, line_string_within, signal_within, crosswalk_within, rule_within, line_string_points, signal_points, body_points, rule_points, points, within_ceilings}
+use Rattle.map.specs.MapFile.{point, polyline, lane, line_string, bulb, signal, crosswalk, is_map}
 use Rattle.map.specs.Rows.{fresh, with_line, with_signal, with_rule, with_rules}
-use Rattle.map.proofs.Parts.{Parts, map-parts, table_few, table_each, rules_within, rules_few}
+use Rattle.map.proofs.Parts.{map-parts, table_few, table_each}
 use Rattle.finishing.specs.Grown.{Grown, grown_within}
 
 -- ---- lists

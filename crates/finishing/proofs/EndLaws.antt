@@ -6,9 +6,8 @@ use mathlib.Core.List.{List, []}
 use native.Mathlib.Omega.{arith}
 use lib.Dec.{leb}
 use lib.Ieee.{Float}
-use Rattle.refusal.specs.Answer.{Answer, refused, done, refused_as, ◌>>◌, refuse_when}
+use Rattle.refusal.specs.Answer.{done, ◌>>◌, refuse_when}
 use Rattle.refusal.specs.declared.Refusal.{Refusal}
-use Rattle.map.specs.Record.{Map}
 use Rattle.map.specs.Tables.{map_of}
 use Rattle.changes.specs.declared.Tally.{Tally}
 use Rattle.changes.specs.ChangeSet.{ChangeSet, normalize, fold_step, tally_of}
@@ -23,7 +22,7 @@ use Rattle.edit.specs.declared.Called.{Called}
 use Rattle.edit.specs.declared.Called.TheVariants as c
 use Rattle.edit.specs.Edit.{Draft}
 use Rattle.edit.specs.Lent.{Lent}
-use Rattle.finishing.specs.Finish.{lent_checks, planned, settled, CallEnds, Few, FoldRoom, Settles, TakenIn}
+use Rattle.finishing.specs.Finish.{lent_checks, settled, CallEnds, Few, FoldRoom, Settles, TakenIn}
 use Rattle.finishing.proofs.CallLaws.{settle_refused, carried_out, call_refused, call_done}
 
 -- few entries, and the fold has room for them

@@ -9,9 +9,9 @@ use lib.ListN.{length}
 use borrow.Author.Tests.{ltb-true, leb-true}
 use Rattle.rows.specs.Lists.{every, keep, by_order}
 use Rattle.rows.proofs.Bools.{parts, and_l, clash}
-use Rattle.map.specs.Entity.{EntityRef, entity, compare_refs, same_ref, listed}
-use Rattle.changes.specs.ChangeFile.{rise_after, rising_refs, entries, apart, lists_ok}
-use Rattle.changes.specs.ChangeSet.{Warning, ChangeSet, insert_ref, sort_refs, without, normalize, fold_step}
+use Rattle.map.specs.Entity.{EntityRef, compare_refs, same_ref, listed}
+use Rattle.changes.specs.ChangeFile.{rising_refs, apart, lists_ok}
+use Rattle.changes.specs.ChangeSet.{ChangeSet, insert_ref, sort_refs, without, normalize, fold_step}
 use Rattle.changes.specs.Running.{State, all_below, fold_ok, fold_fits}
 use Rattle.changes.proofs.Refs.{same_self, order_eq, earlier_self, listed-append, listed_keep, listed_sort, every_listed, listed_every, rise_later, rise_rising}
 use Rattle.changes.proofs.WalkLaws.{keep_same}

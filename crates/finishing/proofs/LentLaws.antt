@@ -1,14 +1,13 @@
 -- 12 and 13: each answer of `check_lent`. Assumes nothing.
 use Prim.Native.Nat.{ℕ}
-use mathlib.Core.Path.{◌≡◌, refl, sym, ap, ◌∙◌}
+use mathlib.Core.Path.{◌≡◌, refl, sym, ◌∙◌}
 use mathlib.Core.Bool.{Bool, true, false, not, ◌&&◌}
 use mathlib.Core.List.{List, []}
 use borrow.Author.Tests.{not-true, not-false, eq-eqb, ne_eqb}
 use lib.Dec.{eqb}
 use lib.Ieee.{Float}
 use lib.ListN.{length}
-use Rattle.rows.proofs.Bools.{and_no}
-use Rattle.refusal.specs.Answer.{Answer, refused, done, refused_as, ◌>>◌, refuse_when}
+use Rattle.refusal.specs.Answer.{done, refused_as, ◌>>◌, refuse_when}
 use Rattle.refusal.specs.declared.Refusal.TheVariants.{BadMap, BadSet}
 use Rattle.store.specs.Layout.{SizedWords}
 use Rattle.map.specs.Tables.{is_map_tables}

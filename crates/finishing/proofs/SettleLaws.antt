@@ -10,7 +10,7 @@ use lib.Seq.{take-length, drop-length}
 use borrow.Author.Tests.{le-leb, leb-true, lt-leb}
 use Rattle.rows.specs.Rows.{pasted}
 use Rattle.rows.proofs.Bools.{and_no}
-use Rattle.refusal.specs.Answer.{Answer, refused, done, refused_as, refuse_when, ◌>>◌}
+use Rattle.refusal.specs.Answer.{done, refused_as, refuse_when, ◌>>◌}
 use Rattle.refusal.specs.declared.Refusal.{Refusal}
 use Rattle.refusal.specs.declared.Refusal.TheVariants as e
 use Rattle.map.specs.Entity.{EntityRef}
@@ -21,17 +21,15 @@ use Rattle.changes.specs.Running.{fold_fits}
 use Rattle.changes.proofs.Refs.{sort_rising, length_sort, length_without}
 use Rattle.sets.specs.declared.Folded.{Folded}
 use Rattle.sets.specs.declared.Folded.TheVariants as s
-use Rattle.sets.specs.Tables.{Roomy, Fits}
+use Rattle.sets.specs.Tables.{Fits}
 use Rattle.sets.specs.Fold.{folded_as, fold_fitted, FoldsTo}
 use Rattle.sets.proofs.ListLaws.{without_rises}
 use Rattle.sets.proofs.SettleLaws.{length_in}
 use Rattle.sets.proofs.TableLaws.{fits_ok}
 use Rattle.normal.specs.Normal.{Normalized}
 use Rattle.normal.proofs.SortLaws.{normal_already}
-use Rattle.placing.specs.declared.Checked.{Checked}
 use Rattle.placing.specs.declared.Checked.TheVariants as k
-use Rattle.placing.specs.Answers.{checked}
-use Rattle.finishing.specs.Finish.{settled, RoomyAll, Few, is_few, FoldRoom, Tried, Settles, SettlesTable, TakenIn}
+use Rattle.finishing.specs.Finish.{settled, RoomyAll, Few, is_few, FoldRoom, Tried, SettlesTable, TakenIn}
 
 -- ---- a normalized list rises and is no longer than it was
 

@@ -1,6 +1,6 @@
 -- A call, step by step: what is tested of what is lent, what is planned, what the fold settles; and what the code of each step leaves.
 use Rattle.std.specs.Prelude.{ℕ, ◌^◌, ◌≤◌, ◌≡◌, Bool, true, not, ◌&&◌, List, [], eqb, leb, length}
-use Rattle.refusal.specs.Answer.{Answer, refused, done, ◌>>=◌, ◌>>◌, refuse_when}
+use Rattle.refusal.specs.Answer.{Answer, done, ◌>>=◌, ◌>>◌, refuse_when}
 use Rattle.rows.specs.Lists.{every}
 use Rattle.geometry.specs.Point.{point_on_map}
 use Rattle.map.specs.Record.{Map}

@@ -1,10 +1,10 @@
 -- Small closed cases of the geometry definitions: a centreline, its length and direction, and the order of refusals.
 use Prim.Native.Nat.{ℕ, ◌+◌, ◌^◌}
 use mathlib.Core.Path.{◌≡◌, refl}
-use mathlib.Core.Bool.{Bool, true, false}
-use mathlib.Core.Option.{Option, none, some}
-use mathlib.Core.List.{List, [], ◌∷◌}
-use lib.Ieee.{Float, nan, inf}
+use mathlib.Core.Bool.{true}
+use mathlib.Core.Option.{some}
+use mathlib.Core.List.{[], ◌∷◌}
+use lib.Ieee.{nan, inf}
 use Rattle.refusal.specs.Answer.{Answer, refused, done}
 use Rattle.rows.specs.Lists.{list_to}
 use Rattle.geometry.specs.declared.Point3.{Point3}

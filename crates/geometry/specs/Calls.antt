@@ -1,7 +1,7 @@
 -- The geometry calls: what each refuses, in order, and the inner function's answer otherwise. A polyline comes as a slice of coordinates.
-use Rattle.std.specs.Prelude.{ℕ, ◌%◌, max, Bool, true, false, not, ◌&&◌, List, [], ◌∷◌, eqb, ltb, length, Float}
-use Rattle.std.proofs.Math.Option.{Option, none, some}
-use Rattle.refusal.specs.Answer.{Answer, refused, done, ◌>>=◌, ◌>>◌, refuse_when}
+use Rattle.std.specs.Prelude.{ℕ, ◌%◌, max, Bool, not, ◌&&◌, List, [], ◌∷◌, eqb, ltb, length, Float}
+use Rattle.std.proofs.Math.Option.{Option}
+use Rattle.refusal.specs.Answer.{Answer, done, ◌>>=◌, ◌>>◌, refuse_when}
 use Rattle.rows.specs.Lists.{every}
 use Rattle.geometry.specs.declared.Point2.{Point2}
 use Rattle.geometry.specs.declared.Point3.{Point3}

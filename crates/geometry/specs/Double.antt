@@ -1,5 +1,5 @@
 -- Doubles: each arithmetic step rounded once.
-use Rattle.std.specs.Prelude.{ℕ, ◌^◌, ◌≡◌, refl, Bool, true, false, not, ◌&&◌, cond, List, [], ◌∷◌, map, pos, Float}
+use Rattle.std.specs.Prelude.{ℕ, ◌^◌, ◌≡◌, refl, Bool, false, ◌&&◌, cond, [], ◌∷◌, map, pos, Float}
 use Rattle.std.specs.Float.{nan, inf, fin, binary64}
 use Rattle.std.specs.Float.Ieee.{round, add, sub, mul, div, neg, lt, le, fits, of_int, of_bits, to_bits}
 use Rattle.root.specs.Root.{square_root}

@@ -1,5 +1,5 @@
 -- Points and vectors: geometry/mod.rs.
-use Rattle.std.specs.Prelude.{Bool, true, false, ◌&&◌, cond, Float}
+use Rattle.std.specs.Prelude.{Bool, ◌&&◌, cond, Float}
 use Rattle.std.proofs.Math.Option.{Option, none, some}
 use Rattle.std.specs.Float.Ieee.{lt, neg}
 use Rattle.root.specs.Root.{square_root}

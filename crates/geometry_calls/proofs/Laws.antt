@@ -1,16 +1,16 @@
 -- Answers: a refusal stands, and what comes after a test that passed. Every coordinate on the map, one after the other.
-use Prim.Native.Nat.{ℕ, ◌+◌, ◌/◌, ◌%◌, ◌≤◌, ◌<◌, max}
+use Prim.Native.Nat.{ℕ, ◌+◌, ◌/◌, ◌%◌, ◌≤◌, ◌<◌}
 use mathlib.Core.Path.{◌≡◌, refl, sym, ap, ◌∙◌}
-use mathlib.Core.Bool.{Bool, true, false, not, ◌&&◌}
+use mathlib.Core.Bool.{Bool, true, false, ◌&&◌}
 use mathlib.Core.List.{List, [], ◌∷◌}
 use native.Mathlib.Omega.{arith}
 use native.Mathlib.Numerals.{add-one}
-use lib.Dec.{eqb, ltb}
+use lib.Dec.{ltb}
 use lib.ListN.{length, get_or, drop, drop_of_length-le}
 use lib.Seq.{drop-cons}
 use lib.Ieee.{Float, nan}
 use borrow.Author.Tests.{eq-eqb, ne_eqb, ltb-false}
-use Rattle.refusal.specs.Answer.{Answer, refused, done, refused_as, ◌>>◌, refuse_when}
+use Rattle.refusal.specs.Answer.{Answer, refused, done, refused_as, ◌>>◌}
 use Rattle.refusal.specs.declared.Refusal.{Refusal}
 use Rattle.rows.specs.Lists.{every}
 use Rattle.geometry.specs.Double.{on_map}

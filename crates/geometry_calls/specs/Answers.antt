@@ -1,7 +1,7 @@
 -- The code's answers, as answers of the definitions.
 use Rattle.std.specs.Prelude.{Bool, List, Float}
-use Rattle.std.proofs.Math.Option.{Option, none, some}
-use Rattle.refusal.specs.Answer.{Answer, refused, done, refused_as, ◌>>◌}
+use Rattle.std.proofs.Math.Option.{Option}
+use Rattle.refusal.specs.Answer.{Answer, done, refused_as, ◌>>◌}
 use Rattle.geometry.specs.declared.Point2.{Point2}
 use Rattle.geometry.specs.declared.Point3.{Point3}
 use Rattle.geometry.specs.declared.Location.{Location}

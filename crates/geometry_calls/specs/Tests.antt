@@ -1,10 +1,7 @@
 -- The tests of the calls, by themselves.
-use Rattle.std.specs.Prelude.{ℕ, max, Bool, ◌&&◌, List, length, Float}
-use Rattle.refusal.specs.Answer.{Answer, done, ◌>>=◌, ◌>>◌}
-use Rattle.geometry.specs.declared.Point2.{Point2}
-use Rattle.geometry.specs.Point.{point2_on_map}
-use Rattle.geometry.specs.Polyline.{polyline_of}
-use Rattle.geometry.specs.Calls.{coords_on_map, refuse_off_map, refuse_many, refuse_measure, check_line}
+use Rattle.std.specs.Prelude.{ℕ, Bool, ◌&&◌, List, Float}
+use Rattle.refusal.specs.Answer.{Answer, ◌>>=◌, ◌>>◌}
+use Rattle.geometry.specs.Calls.{refuse_off_map, refuse_many, refuse_measure, check_line}
 
 -- 9 where the first test fails, then 10 for more than 64 points
 unfoldable pub check_count : Bool → ℕ → Answer (Unit {0})

@@ -1,15 +1,13 @@
 -- What the lent arrays stand for once an answer is written.
 use Rattle.std.specs.Prelude.{ℕ, Bool, cond, List, get_or, Float}
 use Rattle.std.specs.Float.{nan}
-use Rattle.refusal.specs.Answer.{Answer, refused, done, ◌>>=◌}
+use Rattle.refusal.specs.Answer.{Answer, done, ◌>>=◌}
 use Rattle.geometry.specs.declared.Point2.{Point2}
 use Rattle.geometry.specs.declared.Point3.{Point3}
 use Rattle.geometry.specs.declared.Location.{Location}
 use Rattle.geometry.specs.declared.NearestPoint.{NearestPoint}
 use Rattle.geometry.specs.Point.{at2, at3}
 use Rattle.geometry.specs.Polyline.{Polyline}
-use Rattle.centerline.specs.declared.Line.{Line}
-use Rattle.centerline.specs.declared.Stations.{Stations}
 use Rattle.centerline.specs.Line.{points_of, stations_of}
 
 -- two arrays: numbers, and one word

@@ -1,6 +1,6 @@
 -- A light that joins another: its lanes, and its rule put.
-use Prim.Native.Nat.{ℕ, suc, ◌+◌, ◌≤◌, ◌<◌}
-use mathlib.Core.Path.{◌≡◌, refl, sym, ap, ap₂, ◌∙◌}
+use Prim.Native.Nat.{ℕ, ◌+◌, ◌≤◌, ◌<◌}
+use mathlib.Core.Path.{◌≡◌, sym, ap, ap₂, ◌∙◌}
 use mathlib.Core.Bool.{Bool, true, false, not, cond}
 use mathlib.Core.Option.{Option, none, some}
 use mathlib.Core.List.{List, [], ◌∷◌, ◌++◌, append_assoc, append-nil}
@@ -9,7 +9,7 @@ use native.Mathlib.Omega.{arith}
 use lib.Ieee.{Float, nan}
 use lib.ListN.{length, get_or, take, drop, set, replicate, length-replicate, length-append, length-take, length-set, drop_of_length-le}
 use lib.Seq.{drop-cons, take-suc-set}
-use Rattle.rows.specs.Lists.{keep, member, or_else, list_to}
+use Rattle.rows.specs.Lists.{keep, member, or_else}
 use Rattle.rows.specs.Table.{replaced, rising}
 use Rattle.rows.proofs.Indexed.{length-list_to}
 use Rattle.store.specs.Layout.{SizedWords, count_of, row_of, coords_of, all_coords}

@@ -1,24 +1,23 @@
 -- Lifts taken from the tables: one rule's, and all that are left.
 use Prim.Native.Nat.{ℕ, zero, suc, ◌+◌, ◌-◌, ◌≤◌, ◌<◌}
 use mathlib.Core.Path.{◌≡◌, refl, sym, ap, ◌∙◌}
-use mathlib.Core.Bool.{Bool, true, false, ◌&&◌}
+use mathlib.Core.Bool.{Bool, true, ◌&&◌}
 use mathlib.Core.List.{List, [], ◌∷◌, ◌++◌, append-nil, append_assoc}
-use native.Mathlib.Numerals.{add-one}
 use native.Mathlib.Omega.{arith}
 use lib.Dec.{leb}
 use lib.Ieee.{Float}
-use lib.ListN.{length, get_or, set, take, drop, take-append-drop, length-append, length-take, length-drop, drop_of_length-le}
+use lib.ListN.{length, get_or, take, drop, take-append-drop, length-append, length-take, length-drop, drop_of_length-le}
 use lib.Seq.{drop-cons, take_all, take_at, drop_at, set_split}
 use borrow.Author.Tests.{le-leb, leb-true}
-use Rattle.rows.specs.Lists.{every, keep, list_to, joined, member}
+use Rattle.rows.specs.Lists.{every, list_to, joined}
 use Rattle.rows.specs.Rows.{without}
 use Rattle.rows.proofs.Bools.{parts, and_l, and_r, and_i}
 use Rattle.rows.proofs.Tables.{every_append}
 use Rattle.rows.proofs.Indexed.{length-list_to, get_or-list_to}
-use Rattle.store.specs.Layout.{SizedWords, Sized, all_coords, count_of, row_of, coords_of, records_of, Same, Kept}
+use Rattle.store.specs.Layout.{SizedWords, Sized, count_of, row_of, coords_of, records_of, Kept}
 use Rattle.map.specs.Record.{Rule, Map}
 use Rattle.map.specs.Rows.{with_rules, rule_with}
-use Rattle.map.specs.Tables.{list_at, flag_at, rule_in, map_of}
+use Rattle.map.specs.Tables.{list_at, rule_in, map_of}
 use Rattle.map.specs.Updates.{with_list, RulePut, RuleDropped}
 use Rattle.map.proofs.SoundLaws.{record_at}
 use Rattle.map.proofs.UpdateLaws.{with_lanes_lem, row_long, kept_then}
@@ -29,7 +28,6 @@ use Rattle.lifting.specs.declared.Lift.TheVariants as v
 use Rattle.lifting.specs.declared.Lifting.{Lifting}
 use Rattle.lifting.specs.Lifting.{entries_of, LiftRead, lifted_rules}
 use Rattle.lifting.specs.Applying.{part_of, LiftedAt, LiftsApplied}
-use Rattle.lifting.proofs.GoneLaws.{first_rules, all_rules, joined_more}
 
 -- ---- lists in two parts
 

@@ -1,23 +1,22 @@
 -- How many rules go, and how many points with their shapes: rule by rule, over the rules that were passed.
 use Prim.Native.Nat.{ℕ, zero, suc, ◌+◌, ◌*◌, ◌≤◌, ◌<◌}
-use mathlib.Core.Path.{◌≡◌, refl, sym, ap, ◌∙◌}
+use mathlib.Core.Path.{◌≡◌, refl, sym, ◌∙◌}
 use mathlib.Core.Bool.{Bool, true, false, ◌&&◌, cond}
 use mathlib.Core.Option.{Option, none, some}
 use mathlib.Core.List.{List, [], ◌∷◌, ◌++◌, append-nil, append_assoc}
 use native.Mathlib.Nat.{add-zero, zero-add, add_assoc}
 use native.Mathlib.Numerals.{add-one}
 use native.Mathlib.Omega.{arith}
-use lib.Dec.{eqb, leb}
+use lib.Dec.{eqb}
 use lib.Ieee.{Float}
 use lib.ListN.{length, get_or, length-append}
 use borrow.Author.Tests.{ne_eqb, eqb-true, leb-true}
-use Rattle.geometry.specs.Polyline.{Polyline}
 use Rattle.rows.specs.Lists.{list_to, joined, total}
 use Rattle.rows.proofs.Indexed.{length-list_to}
 use Rattle.codec.specs.Format.{both}
 use Rattle.store.specs.Layout.{count_of, row_of, coords_of, records_of}
 use Rattle.map.specs.declared.RuleHead.{RuleHead}
-use Rattle.map.specs.Record.{RuleBody, sign, Rule}
+use Rattle.map.specs.Record.{sign, Rule}
 use Rattle.map.specs.Ceilings.{size_of, if_there, line_within, body_within, rule_within, body_points, rule_points}
 use Rattle.map.specs.Tables.{flag_at, line_at, body_of, rule_in, map_of}
 use Rattle.map.specs.Access.{HeadRead}

@@ -1,31 +1,28 @@
 -- Lifts noted in a change set: one rule's entry and warning, and over the rules that were passed.
 use Prim.Native.Nat.{ℕ, zero, suc, ◌+◌, ◌≤◌, ◌<◌}
-use mathlib.Core.Path.{◌≡◌, refl, sym, ap, ◌∙◌, subst}
+use mathlib.Core.Path.{◌≡◌, refl, sym, ◌∙◌}
 use mathlib.Core.List.{List, [], ◌∷◌, ◌++◌, append-nil, append_assoc}
 use native.Mathlib.Omega.{arith}
-use lib.Dec.{eqb}
 use lib.Ieee.{Float}
-use lib.ListN.{length, get_or}
+use lib.ListN.{get_or}
 use Rattle.rows.specs.Lists.{list_to, joined}
 use Rattle.store.specs.Layout.{SizedWords, limit_of, width_of, count_of, row_of, coords_of}
 use Rattle.map.specs.Record.{Rule}
 use Rattle.map.specs.Entity.{EntityRef, entity}
-use Rattle.map.specs.Tables.{rule_in, map_of}
+use Rattle.map.specs.Tables.{rule_in}
 use Rattle.map.proofs.ReadLaws.{rule_number_lem}
-use Rattle.map.proofs.UpdateLaws.{rule_wide, rule_limit}
-use Rattle.changes.specs.ChangeSet.{ChangeSet, Warning, warning}
+use Rattle.map.proofs.UpdateLaws.{rule_wide}
+use Rattle.changes.specs.ChangeSet.{ChangeSet, Warning}
 use Rattle.changes.specs.Layout.{count_in, change_set_of}
 use Rattle.sets.specs.Tables.{Roomy}
 use Rattle.building.specs.Build.{EntryAdded, WarningAdded}
 use Rattle.place.specs.Readable.{ReadableWords}
-use Rattle.edit.specs.Light as light
 use Rattle.edit.specs.Light.{lift, eased_ref, gone_ref, lift_warning}
-use Rattle.lifting.specs.declared.Lift.{Lift}
 use Rattle.lifting.specs.declared.Lift.TheVariants.{Kept, Eased, Gone}
 use Rattle.lifting.specs.declared.Lifting.{Lifting}
-use Rattle.lifting.specs.Lifting.{lift_of, entries_of, LiftRead}
+use Rattle.lifting.specs.Lifting.{entries_of, LiftRead}
 use Rattle.lifting.specs.Noting.{with_notes, OneFits, LiftNoted, AllFit, LiftsNoted}
-use Rattle.lifting.proofs.GoneLaws.{first_rules, all_rules, joined_next, rules_few}
+use Rattle.lifting.proofs.GoneLaws.{first_rules, all_rules, joined_next}
 
 -- ---- one rule
 

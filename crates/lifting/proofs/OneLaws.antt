@@ -19,7 +19,7 @@ use Rattle.place.specs.Readable.{ReadableWords}
 use Rattle.map.proofs.UpdateLaws.{rule_limit}
 use Rattle.map.specs.declared.RuleHead.{RuleHead}
 use Rattle.map.specs.declared.Entries.{Entries}
-use Rattle.map.specs.Record.{RuleBody, sign}
+use Rattle.map.specs.Record.{sign}
 use Rattle.map.specs.Tables.{flag_at, list_at, line_at, body_of, rule_in}
 use Rattle.map.specs.Access.{HeadRead}
 use Rattle.edit.specs.Light as light

@@ -3,7 +3,7 @@ use Prim.Native.Nat.{ℕ, suc, ◌≤◌, ◌<◌}
 use mathlib.Core.Path.{◌≡◌, refl, sym, ap, ap₂, ◌∙◌}
 use mathlib.Core.Bool.{Bool, true, false, not, ◌&&◌, ◌||◌, cond}
 use mathlib.Core.Option.{Option, none, some}
-use mathlib.Core.List.{List, [], ◌∷◌, ◌++◌, append-nil, append_assoc}
+use mathlib.Core.List.{List, [], ◌∷◌, ◌++◌, append-nil}
 use native.Mathlib.Omega.{arith}
 use lib.Dec.{eqb, leb}
 use lib.ListN.{length}
@@ -13,8 +13,7 @@ use Rattle.rows.specs.Table.{find, replaced, rising}
 use Rattle.rows.proofs.Bools.{parts, and_i}
 use Rattle.rows.proofs.Tables.{every_append, rising_above}
 use Rattle.map.specs.Ceilings.{body_within, rule_within}
-use Rattle.map.specs.Record.{RuleBody, light, Rule}
-use Rattle.map.specs.Rows.{rule_with}
+use Rattle.map.specs.Record.{light, Rule}
 use Rattle.edit.specs.Light.{is_stop_at, Lift, kept, eased, gone, lift_of, lift, lifted, eased_ref, gone_ref, lift_warning}
 use Rattle.lifting.specs.Lifting.{lifted_rules}
 use Rattle.lifting.proofs.GoneLaws.{joined_more}

@@ -1,30 +1,29 @@
 -- The light that is joined, and the choice of a line: each refusal, and what is chosen.
 use Prim.Native.Nat.{ℕ, zero, suc, ◌+◌, ◌≤◌, ◌<◌}
 use mathlib.Core.Path.{◌≡◌, refl, sym, ap, ◌∙◌}
-use mathlib.Core.Bool.{Bool, true, false, not}
-use mathlib.Core.Option.{Option, none, some}
+use mathlib.Core.Bool.{true, false}
+use mathlib.Core.Option.{some}
 use mathlib.Core.List.{List, [], ◌∷◌}
 use native.Mathlib.Omega.{arith}
 use lib.Ieee.{Float}
-use lib.ListN.{length, get_or}
+use lib.ListN.{get_or}
 use borrow.Author.Tests.{eq-eqb, ne_eqb}
-use Rattle.refusal.specs.Answer.{Answer, refused, done, refused_as, ◌>>=◌, ◌>>◌, refuse_when, present}
+use Rattle.refusal.specs.Answer.{refused, done, ◌>>=◌, ◌>>◌}
 use Rattle.refusal.specs.declared.Refusal.TheVariants.{Unknown, WrongGroup}
-use Rattle.rows.specs.Lists.{list_to, no_entries, or_else}
+use Rattle.rows.specs.Lists.{list_to, no_entries}
 use Rattle.rows.proofs.Indexed.{length-list_to}
 use Rattle.geometry.specs.Double.{f0}
 use Rattle.store.specs.Layout.{SizedWords, limit_of, width_of, row_of, coords_of}
 use Rattle.map.specs.declared.Found.{Found}
 use Rattle.map.specs.declared.Found.TheVariants as f
 use Rattle.map.specs.declared.RuleHead.{RuleHead}
-use Rattle.map.specs.Lookup.{rule_of, line_of}
+use Rattle.map.specs.Lookup.{rule_of}
 use Rattle.map.specs.Tables.{list_at, body_of, rule_in, map_of}
 use Rattle.map.specs.Access.{lookup, HeadRead}
 use Rattle.map.proofs.ReadLaws.{rule_found, no_rule, line_found, no_line}
 use Rattle.place.specs.declared.Placement.{Placement}
 use Rattle.place.specs.declared.Placement.TheVariants.{AtLaneEnd}
 use Rattle.place.specs.Place.{place_as, place_stop_line}
-use Rattle.place.specs.Readable.{ReadableWords}
 use Rattle.place.proofs.LineLaws.{found_within}
 use Rattle.placing.specs.declared.Checked.{Checked}
 use Rattle.placing.specs.declared.Checked.TheVariants.{Fine, Refused}
@@ -34,11 +33,11 @@ use Rattle.placing.specs.Answers.{checked, maybeNumber}
 use Rattle.placing.proofs.CheckLaws.{no_entries_lem, some_entries}
 use Rattle.edit.specs.declared.StopLineChoice.{StopLineChoice}
 use Rattle.edit.specs.declared.StopLineChoice.TheVariants as ch
-use Rattle.edit.specs.Light.{light_line, group_line, differs, check_new, check_choice, stops_at, existing_stop_line, draw_plan, auto_plan, plan_for}
+use Rattle.edit.specs.Light.{light_line, group_line, differs, check_new, check_choice, stops_at, draw_plan, auto_plan, plan_for}
 use Rattle.lighting.specs.declared.GroupLine.{GroupLine}
 use Rattle.lighting.specs.declared.LinePlan.{LinePlan}
 use Rattle.lighting.specs.declared.LinePlan.TheVariants.{Use, NoLine, Draw}
-use Rattle.lighting.specs.Group.{group_answer, GroupRefused, GroupRead, ExistingChecked, ChoiceChecked, chosen_plan, AutoChosen, OwnChosen, PlanChosen}
+use Rattle.lighting.specs.Group.{GroupRefused, GroupRead, ExistingChecked, ChoiceChecked, chosen_plan, AutoChosen, OwnChosen, PlanChosen}
 use Rattle.lighting.specs.RuleLines.{head_line, LineFound}
 use Rattle.lighting.proofs.RuleLaws.{head_is}
 

@@ -1,14 +1,13 @@
 -- Where the signal goes: each refusal, and the housing.
 use Prim.Native.Nat.{ℕ, ◌*◌, ◌/◌, ◌≤◌}
-use mathlib.Core.Path.{◌≡◌, refl, sym, ap, ◌∙◌}
+use mathlib.Core.Path.{◌≡◌, ap, ◌∙◌}
 use mathlib.Core.Bool.{Bool, true, false, not, cond}
-use mathlib.Core.Option.{Option, none, some}
+use mathlib.Core.Option.{none, some}
 use mathlib.Core.List.{List, [], ◌∷◌}
-use native.Mathlib.Omega.{arith}
 use lib.Ieee.{Float}
 use lib.ListN.{length, take}
 use borrow.Author.Tests.{not-true, not-false}
-use Rattle.refusal.specs.Answer.{Answer, refused, done, refused_as, ◌>>=◌, ◌>>◌, present}
+use Rattle.refusal.specs.Answer.{refused_as, ◌>>=◌, ◌>>◌}
 use Rattle.refusal.specs.declared.Refusal.TheVariants.{NoPlace}
 use Rattle.geometry.specs.declared.Point2.{Point2}
 use Rattle.geometry.specs.declared.Point3.{Point3}
@@ -29,7 +28,7 @@ use Rattle.place.specs.declared.CrossSection.{CrossSection}
 use Rattle.place.specs.declared.MaybeLine.{MaybeLine}
 use Rattle.place.specs.Values.{maybe_line, Roomy}
 use Rattle.place.proofs.LineLaws.{line_part_lem}
-use Rattle.placing.specs.declared.Checked.TheVariants.{Fine, Refused}
+use Rattle.placing.specs.declared.Checked.TheVariants.{Fine}
 use Rattle.placing.proofs.PlaceLaws.{across_room, given_room}
 use Rattle.edit.specs.Light.{housing_at, station_of}
 use Rattle.lighting.specs.declared.Housing.{Housing}

@@ -8,7 +8,7 @@ use native.Mathlib.Omega.{arith}
 use lib.Ieee.{Float, lt}
 use lib.ListN.{length, get_or, take}
 use borrow.Author.Tests.{not-true, not-false}
-use Rattle.refusal.specs.Answer.{Answer, refused, done, refused_as, ◌>>=◌, ◌>>◌, refuse_when, present}
+use Rattle.refusal.specs.Answer.{Answer, refused, done, refused_as, ◌>>=◌, ◌>>◌, present}
 use Rattle.refusal.specs.declared.Refusal.{Refusal}
 use Rattle.refusal.specs.declared.Refusal.TheVariants.{Unknown, BadMeasure, NoPlace}
 use Rattle.rows.proofs.Bools.{clash}
@@ -19,7 +19,7 @@ use Rattle.centerline.specs.Line.{points_of}
 use Rattle.store.specs.Layout.{SizedWords, limit_of, width_of, coord_width_of, row_of, coords_of, all_coords}
 use Rattle.map.specs.declared.Found.{Found}
 use Rattle.map.specs.declared.Found.TheVariants as f
-use Rattle.map.specs.Record.{LineString, Map}
+use Rattle.map.specs.Record.{Map}
 use Rattle.map.specs.Lookup.{line_of}
 use Rattle.map.specs.Tables.{line_at, line_string_in, map_of}
 use Rattle.map.specs.Access.{lookup}
@@ -41,13 +41,13 @@ use Rattle.place.proofs.SectionLaws.{cross_section_is}
 use Rattle.placing.specs.declared.Checked.{Checked}
 use Rattle.placing.specs.declared.Checked.TheVariants.{Fine, Refused}
 use Rattle.placing.specs.declared.PlacedLine.{PlacedLine}
-use Rattle.placing.specs.Answers.{checked, maybeNumber, LanesChecked, placedAnswer, RefusedWith}
+use Rattle.placing.specs.Answers.{checked, LanesChecked, placedAnswer, RefusedWith}
 use Rattle.placing.proofs.CheckLaws.{shape_few, lanes_there}
 use Rattle.placing.proofs.PlaceLaws.{across_room, given_room}
 use Rattle.edit.specs.declared.Height.{Height}
 use Rattle.edit.specs.declared.Height.TheVariants as h
 use Rattle.edit.specs.declared.SignalRequest.{SignalRequest}
-use Rattle.edit.specs.Light.{Plan, use_line, use_none, draw, Planned, draw_plan, anchor_for, housing_for, synthesize_signal_geometry, bad_height, check_housing, light_plan}
+use Rattle.edit.specs.Light.{use_line, use_none, draw, draw_plan, anchor_for, housing_for, synthesize_signal_geometry, bad_height, check_housing, light_plan}
 use Rattle.edit.specs.Request.{height_given, new_traffic_signal}
 use Rattle.lighting.specs.declared.ChosenLine.{ChosenLine}
 use Rattle.lighting.specs.declared.GroupLine.{GroupLine}
@@ -57,7 +57,7 @@ use Rattle.lighting.specs.declared.LinePlan.{LinePlan}
 use Rattle.lighting.specs.declared.LinePlan.TheVariants.{Use, NoLine, Draw}
 use Rattle.lighting.specs.Group.{GroupRead, ChoiceChecked, PlanChosen, chosen_plan}
 use Rattle.lighting.specs.Housing.{housing_of, HousingRead, synthesized_on, housing_on}
-use Rattle.lighting.specs.Plan.{plan_of, draws, light_answer, plan_answer, LightRead, LightPlanned, planned_from, planned_as, ChoiceMade, asks_center, CenterAt, StoredRead, end_of, EndRead, AnchorRead, Anchored}
+use Rattle.lighting.specs.Plan.{plan_of, draws, LightRead, LightPlanned, planned_from, planned_as, ChoiceMade, asks_center, CenterAt, StoredRead, end_of, EndRead, AnchorRead, Anchored}
 
 -- ---- answers in turn
 

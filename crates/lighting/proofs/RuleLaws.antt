@@ -7,13 +7,12 @@ use mathlib.Core.List.{List, [], ◌∷◌}
 use native.Mathlib.Omega.{arith}
 use lib.Dec.{eqb}
 use lib.Ieee.{Float}
-use lib.ListN.{length, get_or, drop}
+use lib.ListN.{get_or, drop}
 use borrow.Author.Tests.{eq-eqb, ne_eqb}
-use Rattle.rows.specs.Lists.{first_of, list_to, member}
+use Rattle.rows.specs.Lists.{first_of, member}
 use Rattle.rows.proofs.Indexed.{tab, list_to_tab, tab_step, tab_none}
 use Rattle.store.specs.Layout.{SizedWords, limit_of, count_of, row_of, coords_of, records_of}
 use Rattle.map.specs.declared.RuleHead.{RuleHead}
-use Rattle.map.specs.Record.{Rule}
 use Rattle.map.specs.Tables.{flag_at, list_at, body_of, rule_in, map_of}
 use Rattle.map.specs.Access.{HeadRead}
 use Rattle.place.specs.Readable.{ReadableWords}

@@ -16,7 +16,7 @@ use Rattle.place.specs.declared.MaybeLine.{MaybeLine}
 use Rattle.place.specs.Place.{Placed, lane_centerline, cross_section}
 use Rattle.place.specs.Values.{maybe_line, Roomy, maybe_ends}
 use Rattle.placing.specs.declared.Checked.{Checked}
-use Rattle.placing.specs.declared.Checked.TheVariants.{Fine, Refused}
+use Rattle.placing.specs.declared.Checked.TheVariants.{Fine}
 use Rattle.placing.specs.declared.PlacedLine.{PlacedLine}
 use Rattle.placing.specs.Answers.{checked, placedAnswer}
 use Rattle.edit.specs.declared.SignalRequest.{SignalRequest}

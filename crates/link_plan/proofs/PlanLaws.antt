@@ -2,7 +2,7 @@
 use Prim.Native.Nat.{ℕ, zero, suc, ◌+◌, ◌≤◌, ◌<◌}
 use mathlib.Core.Path.{◌≡◌, refl, sym, ap, ◌∙◌}
 use mathlib.Core.Bool.{Bool, true, false, not, ◌&&◌, cond}
-use mathlib.Core.Option.{Option, none, some}
+use mathlib.Core.Option.{none, some}
 use mathlib.Core.List.{List, [], ◌∷◌}
 use native.Mathlib.Numerals.{add-one}
 use native.Mathlib.Omega.{arith}
@@ -11,21 +11,20 @@ use lib.Ieee.{Float}
 use lib.ListN.{length, get_or, drop, drop_of_length-le}
 use lib.Seq.{drop-cons}
 use borrow.Author.Tests.{eq-eqb, ne_eqb, le-leb, lt-leb}
-use Rattle.refusal.specs.Answer.{Answer, refused, done}
+use Rattle.refusal.specs.Answer.{refused}
 use Rattle.refusal.specs.declared.Refusal.TheVariants.{WrongLink}
 use Rattle.rows.specs.Lists.{same_list}
 use Rattle.rows.proofs.SameLists.{list_same, list_differs}
 use Rattle.store.specs.Layout.{count_of, row_of, coords_of}
 use Rattle.map.specs.declared.RuleHead.{RuleHead}
 use Rattle.map.specs.Record.{Map}
-use Rattle.map.specs.Tables.{flag_at, list_at, body_of, rule_in, map_of}
+use Rattle.map.specs.Tables.{list_at, body_of, rule_in, map_of}
 use Rattle.map.specs.Access.{HeadRead}
 use Rattle.map.proofs.SoundLaws.{Sound, lanes_few, controlled_few, signals_few, lines_few}
 use Rattle.map.proofs.UpdateLaws.{rule_limit}
 use Rattle.edit.specs.Links.{first_entry, to_list, stop_lines_of, same_links}
 use Rattle.placing.specs.declared.Checked.{Checked}
 use Rattle.placing.specs.declared.Checked.TheVariants.{Fine, Refused}
-use Rattle.placing.specs.Answers.{checked}
 use Rattle.linking.specs.LightLinks.{LightChecked}
 use Rattle.link_plan.specs.LinkPlan.{LinkWords, rule_checks, linked_body, RuleChecked, links_fit, same_head_line, SameLines, SameRead}
 

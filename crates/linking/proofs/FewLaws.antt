@@ -1,19 +1,19 @@
 -- Lists that pass are known and without repeats, so they are no longer than the map's tables.
-use Prim.Native.Nat.{ℕ, zero, suc, ◌+◌, ◌≤◌, ◌<◌, compare, Ordering}
+use Prim.Native.Nat.{ℕ, suc, ◌+◌, ◌≤◌, ◌<◌, compare, Ordering}
 use mathlib.Core.Path.{◌≡◌, refl, sym, ap, ◌∙◌}
-use mathlib.Core.Bool.{Bool, true, false, not, ◌&&◌, ◌||◌, cond}
+use mathlib.Core.Bool.{Bool, true, false, ◌&&◌, ◌||◌, cond}
 use mathlib.Core.Option.{Option, none, some}
 use mathlib.Core.List.{List, [], ◌∷◌}
 use native.Mathlib.Omega.{arith}
 use lib.Dec.{eqb, ltb, leb}
 use lib.Ieee.{Float}
 use lib.ListN.{length}
-use borrow.Author.Tests.{ltb-true, lt-ltb, leb-true, eqb-true, eqb-false, eq-eqb, ne_eqb}
+use borrow.Author.Tests.{ltb-true, lt-ltb, leb-true, eqb-true, eqb-false, ne_eqb}
 use Rattle.refusal.specs.Answer.{Answer, refused, done, ◌>>◌, refuse_when}
 use Rattle.rows.specs.Lists.{every, first_of, or_else, by_order, insert_number, sorted, member, twice}
 use Rattle.rows.specs.Table.{holds, rising}
 use Rattle.rows.proofs.Bools.{parts, and_i, is_eq}
-use Rattle.store.specs.Layout.{limit_of, count_of, records_of}
+use Rattle.store.specs.Layout.{limit_of, count_of}
 use Rattle.store.proofs.StoreLaws.{length_records}
 use Rattle.map.specs.Record.{Lane, LineString, Crosswalk, Map}
 use Rattle.map.specs.Lookup.{unknown_in}
@@ -21,7 +21,7 @@ use Rattle.map.specs.Tables.{lane_in, line_string_in, crosswalk_in, map_of}
 use Rattle.map.proofs.ByKind.{up₁, up₅, up₇}
 use Rattle.map.proofs.SoundLaws.{Sound}
 use Rattle.place.specs.Place.{refuse_found}
-use Rattle.linking.specs.Sorting.{Up, none_up, more_up}
+use Rattle.linking.specs.Sorting.{Up, more_up}
 use Rattle.linking.specs.Linking.{twice_checks, list_checks}
 use Rattle.linking.proofs.SortLaws.{above_lower, sorted_up}
 use Rattle.linking.proofs.InsertLaws.{member_sorted, either}

@@ -1,21 +1,18 @@
 -- The kinds of a light's signals, from the last to the first.
 use Prim.Native.Nat.{ℕ, suc, ◌+◌, ◌-◌, ◌≤◌, ◌<◌}
-use mathlib.Core.Path.{◌≡◌, refl, sym, ap, ◌∙◌}
-use mathlib.Core.Bool.{Bool, true, false, not, ◌||◌}
-use mathlib.Core.Option.{Option, none, some}
+use mathlib.Core.Path.{◌≡◌, refl, sym, ◌∙◌}
+use mathlib.Core.Bool.{Bool, true, false, ◌||◌}
 use mathlib.Core.List.{List, [], ◌∷◌}
 use native.Mathlib.Omega.{arith}
-use lib.Dec.{eqb, ltb}
 use lib.Ieee.{Float}
 use lib.ListN.{length, get_or, drop, drop_of_length-le}
 use lib.Seq.{drop-cons}
 use borrow.Author.Tests.{eq-eqb, ne_eqb}
-use Rattle.refusal.specs.Answer.{Answer, refused, done, ◌>>=◌, present}
-use Rattle.store.specs.Layout.{SizedWords, limit_of, width_of, count_of, row_of, coords_of}
+use Rattle.refusal.specs.Answer.{◌>>=◌}
+use Rattle.store.specs.Layout.{SizedWords, limit_of, width_of, row_of, coords_of}
 use Rattle.map.specs.declared.Found.{Found}
 use Rattle.map.specs.declared.Found.TheVariants as f
-use Rattle.map.specs.Record.{Signal, Map}
-use Rattle.map.specs.Lookup.{signal_of}
+use Rattle.map.specs.Record.{Signal}
 use Rattle.map.specs.Tables.{signal_in, map_of}
 use Rattle.map.specs.Access.{lookup}
 use Rattle.map.proofs.ReadLaws.{signal_found, no_signal, found_index, signal_number}

@@ -1,28 +1,25 @@
 -- The checks of a light's links: each refusal, what has passed, and that they are those of the definition.
 use Prim.Native.Nat.{ℕ, ◌≤◌, ◌<◌}
-use mathlib.Core.Path.{◌≡◌, refl, sym, ap, ◌∙◌}
+use mathlib.Core.Path.{◌≡◌, refl, sym, ◌∙◌}
 use mathlib.Core.Bool.{Bool, true, false, not, ◌&&◌}
-use mathlib.Core.Option.{Option, none, some}
+use mathlib.Core.Option.{Option}
 use mathlib.Core.List.{List, [], ◌∷◌}
 use native.Mathlib.Omega.{arith}
 use lib.Dec.{eqb, ltb}
-use lib.Ieee.{Float}
 use lib.ListN.{length}
 use borrow.Author.Tests.{eq-eqb, ne_eqb, lt-ltb, le-ltb}
 use Rattle.refusal.specs.Answer.{Answer, refused, done, ◌>>=◌, ◌>>◌, refuse_when}
 use Rattle.refusal.specs.declared.Refusal.TheVariants.{Unknown, WrongLink}
 use Rattle.rows.specs.Lists.{no_entries}
-use Rattle.rows.proofs.Bools.{and_no}
-use Rattle.map.specs.Record.{RuleBody, light, Map}
-use Rattle.map.specs.Tables.{map_of}
+use Rattle.map.specs.Record.{light, Map}
 use Rattle.edit.specs.Links as links
 use Rattle.edit.specs.Links.{RegulatoryLinks, kinds_of, first_entry, relinked}
 use Rattle.placing.specs.declared.Checked.{Checked}
-use Rattle.placing.specs.declared.Checked.TheVariants.{Fine, Refused}
+use Rattle.placing.specs.declared.Checked.TheVariants.{Refused}
 use Rattle.placing.specs.Answers.{checked}
 use Rattle.linking.specs.declared.SignalKinds.{SignalKinds}
 use Rattle.linking.specs.declared.SignalKinds.TheVariants.{Missing, Kinds}
-use Rattle.linking.specs.Kinds.{kinds_answer, KindsRead}
+use Rattle.linking.specs.Kinds.{KindsRead}
 use Rattle.linking.specs.LightLinks.{kind_checks, light_checks, LightChecked}
 
 -- ---- by the kinds

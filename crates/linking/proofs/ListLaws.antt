@@ -1,23 +1,21 @@
 -- The checks of the lists: each refusal, and what has passed.
 use Prim.Native.Nat.{ℕ, suc, ◌+◌, ◌-◌, ◌≤◌, ◌<◌}
-use mathlib.Core.Path.{◌≡◌, refl, sym, ap, ◌∙◌}
-use mathlib.Core.Bool.{Bool, true, false, not, cond}
+use mathlib.Core.Path.{◌≡◌, refl, sym, ◌∙◌}
+use mathlib.Core.Bool.{Bool, true, false, cond}
 use mathlib.Core.Option.{Option, none, some}
 use mathlib.Core.List.{List, [], ◌∷◌}
-use native.Mathlib.Numerals.{add-one}
 use native.Mathlib.Omega.{arith}
 use lib.Dec.{ltb}
 use lib.Ieee.{Float}
 use lib.ListN.{length, get_or, drop, drop_of_length-le}
 use lib.Seq.{drop-cons}
 use borrow.Author.Tests.{lt-ltb, le-ltb}
-use Rattle.refusal.specs.Answer.{Answer, refused, done, refused_as, ◌>>◌, refuse_when}
+use Rattle.refusal.specs.Answer.{refused, done, ◌>>◌}
 use Rattle.refusal.specs.declared.Refusal.{Refusal}
-use Rattle.refusal.specs.declared.Refusal.TheVariants.{Unknown, ListedTwice}
-use Rattle.rows.specs.Lists.{first_of, twice, sorted, insert_number}
-use Rattle.rows.specs.Table.{holds}
+use Rattle.refusal.specs.declared.Refusal.TheVariants.{Unknown}
+use Rattle.rows.specs.Lists.{first_of, twice, sorted}
 use Rattle.store.specs.Layout.{count_of, records_of}
-use Rattle.map.specs.Record.{Lane, LineString, Crosswalk, Map}
+use Rattle.map.specs.Record.{Lane, LineString, Crosswalk}
 use Rattle.map.specs.Lookup.{unknown_in}
 use Rattle.map.specs.Tables.{lane_in, line_string_in, crosswalk_in, map_of}
 use Rattle.map.specs.Access.{index_in}

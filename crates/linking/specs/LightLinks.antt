@@ -1,6 +1,6 @@
 -- The checks of a light's links, by how many lanes, crosswalks and lines it is to have.
 use Rattle.std.specs.Prelude.{ℕ, ◌≡◌, Bool, not, ◌&&◌, List, [], ◌∷◌, eqb, ltb, Float}
-use Rattle.refusal.specs.Answer.{Answer, refused, done, ◌>>=◌, ◌>>◌, refuse_when}
+use Rattle.refusal.specs.Answer.{Answer, ◌>>=◌, ◌>>◌, refuse_when}
 use Rattle.rows.specs.Lists.{no_entries}
 use Rattle.map.specs.Record.{Map}
 use Rattle.map.specs.Tables.{map_of}

@@ -1,7 +1,7 @@
 -- The checks of `set_regulatory_links`, in the parts that one function of the code answers.
 use Rattle.std.specs.Prelude.{ℕ, ◌≡◌, Bool, cond, List, [], ◌∷◌, ltb, Float}
 use Rattle.std.proofs.Math.Option.{Option, none, some}
-use Rattle.refusal.specs.Answer.{Answer, refused, done, ◌>>=◌, ◌>>◌, refuse_when}
+use Rattle.refusal.specs.Answer.{Answer, ◌>>=◌, ◌>>◌, refuse_when}
 use Rattle.rows.specs.Lists.{first_of, twice, sorted}
 use Rattle.store.specs.Layout.{count_of}
 use Rattle.map.specs.Record.{Map}

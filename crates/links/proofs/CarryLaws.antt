@@ -2,7 +2,7 @@
 use Prim.Native.Nat.{ℕ, ◌^◌, ◌≤◌, ◌<◌}
 use mathlib.Core.Path.{◌≡◌, refl, sym, ap, ◌∙◌}
 use mathlib.Core.Bool.{Bool, true, false, not, ◌&&◌, cond}
-use mathlib.Core.Option.{none, some}
+use mathlib.Core.Option.{none}
 use mathlib.Core.List.{List, [], ◌∷◌}
 use native.Mathlib.Omega.{arith}
 use lib.Dec.{eqb, ltb, leb}
@@ -15,7 +15,7 @@ use Rattle.refusal.specs.declared.Refusal.TheVariants as e
 use Rattle.rows.specs.Lists.{every, twice, sorted}
 use Rattle.rows.proofs.Bools.{parts}
 use Rattle.geometry.specs.Point.{point_on_map}
-use Rattle.store.specs.Layout.{SizedWords, count_of, row_of}
+use Rattle.store.specs.Layout.{count_of, row_of}
 use Rattle.map.specs.declared.Found.{Found}
 use Rattle.map.specs.declared.Found.TheVariants as o
 use Rattle.map.specs.Entity.{entity}
@@ -28,7 +28,7 @@ use Rattle.map.proofs.ReadLaws.{rule_found, no_rule}
 use Rattle.map.proofs.SoundLaws.{Sound, sound}
 use Rattle.changes.specs.declared.Tally.{Tally}
 use Rattle.changes.specs.ChangeFile.{max_entries}
-use Rattle.changes.specs.ChangeSet.{ChangeSet, no_changes, normalize, fold_step, tally_of}
+use Rattle.changes.specs.ChangeSet.{ChangeSet, normalize, fold_step, tally_of}
 use Rattle.changes.specs.Layout.{set_words, count_in, change_set_of, lists_ok_in}
 use Rattle.changes.specs.Running.{fold_fits}
 use Rattle.building.specs.Build.{Cleared, EntryAdded}
@@ -41,12 +41,12 @@ use Rattle.edit.specs.declared.Called.TheVariants as c
 use Rattle.edit.specs.Edit.{Draft, call}
 use Rattle.edit.specs.Lent.{Lent, CallLeft}
 use Rattle.edit.specs.Links.{RegulatoryLinks, link_changes, links_edit, set_regulatory_links}
-use Rattle.finishing.specs.Finish.{lent_checks, planned, RoomyAll, Few, FoldRoom, Settles, TakenIn}
+use Rattle.finishing.specs.Finish.{lent_checks, planned, Few, FoldRoom, Settles, TakenIn}
 use Rattle.finishing.proofs.CallLaws.{lent_fine, lent_refused, plan_refused, call_refused, edit_refused}
 use Rattle.finishing.proofs.EndLaws.{room_settles, ends_refused, takes, ends_done}
 use Rattle.linking.specs.declared.Sorted.{Sorted}
 use Rattle.linking.specs.Sorting.{SortedAs}
-use Rattle.linking.specs.Linking.{list_checks, ListsChecked}
+use Rattle.linking.specs.Linking.{ListsChecked}
 use Rattle.linking.proofs.FewLaws.{Passed, passed, lists_few, length_once}
 use Rattle.link_plan.specs.LinkPlan.{LinkWords, rule_checks, RuleChecked, links_fit, SameRead, LinksPut, rule_at}
 use Rattle.link_plan.proofs.PlanLaws.{link_words}

@@ -1,7 +1,7 @@
 -- The definition of `set_regulatory_links` in the steps of the code, and its ceilings.
 use Prim.Native.Nat.{ℕ, zero, suc, ◌+◌, ◌^◌, ◌≤◌, ◌<◌}
 use mathlib.Core.Path.{◌≡◌, refl, sym, ap, ◌∙◌}
-use mathlib.Core.Bool.{Bool, true, false, not, ◌&&◌, cond}
+use mathlib.Core.Bool.{Bool, true, false, ◌&&◌, cond}
 use mathlib.Core.Option.{Option, none, some}
 use mathlib.Core.List.{List, [], ◌∷◌}
 use native.Mathlib.Omega.{arith}
@@ -10,15 +10,15 @@ use lib.Ieee.{Float}
 use lib.ListN.{length, get_or, set, length-set}
 use borrow.Author.Tests.{ne_eqb, le-leb, lt-leb, leb-true}
 use Rattle.refusal.specs.Answer.{Answer, refused, done, ◌>>=◌, ◌>>◌, refuse_when, present}
-use Rattle.rows.specs.Lists.{every, total, twice, sorted}
+use Rattle.rows.specs.Lists.{every, twice}
 use Rattle.rows.specs.Table.{replaced}
-use Rattle.rows.proofs.Indexed.{get_or-list_to, length-list_to}
+use Rattle.rows.proofs.Indexed.{get_or-list_to}
 use Rattle.codec.proofs.Fits.{number_below}
 use Rattle.store.specs.Layout.{count_of, row_of, coords_of, records_of}
 use Rattle.store.proofs.StoreLaws.{length_records}
 use Rattle.map.specs.declared.Found.TheVariants.{At}
 use Rattle.map.specs.Record.{RuleBody, light, sign, marking, right_of_way, crossing, other, Lane, LineString, Crosswalk, Rule, Map}
-use Rattle.map.specs.Ceilings.{max_stop_lines, max_signals, max_rules, max_points, line_string_within, signal_within, body_within, rule_within, body_points, rule_points, points, within_ceilings}
+use Rattle.map.specs.Ceilings.{max_stop_lines, max_signals, max_rules, max_points, body_within, rule_within, body_points, rule_points, points, within_ceilings}
 use Rattle.map.specs.Lookup.{rule_of, unknown_in}
 use Rattle.map.specs.Rows.{with_rules}
 use Rattle.map.specs.Tables.{body_of, rule_in, map_of}

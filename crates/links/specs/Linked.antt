@@ -7,7 +7,7 @@ use Rattle.rows.specs.Table.{replaced}
 use Rattle.store.specs.Layout.{row_of}
 use Rattle.map.specs.Record.{Rule, Map}
 use Rattle.map.specs.Lookup.{rule_of}
-use Rattle.map.specs.Rows.{rule_with, with_rules}
+use Rattle.map.specs.Rows.{with_rules}
 use Rattle.map.specs.Tables.{map_of}
 use Rattle.changes.specs.Layout.{change_set_of}
 use Rattle.placing.specs.declared.Checked.{Checked}
@@ -15,7 +15,7 @@ use Rattle.placing.specs.Answers.{checked}
 use Rattle.edit.specs.declared.Called.{Called}
 use Rattle.edit.specs.Edit.{Draft, call}
 use Rattle.edit.specs.Lent.{Lent, CallLeft}
-use Rattle.edit.specs.Links.{RegulatoryLinks, relinked, same_links, link_changes}
+use Rattle.edit.specs.Links.{RegulatoryLinks, same_links, link_changes}
 use Rattle.finishing.specs.Finish.{RoomyAll, planned}
 use Rattle.linking.specs.Linking.{list_checks}
 use Rattle.link_plan.specs.LinkPlan.{rule_at, linked_rule, rule_checks, links_fit}

@@ -1,23 +1,21 @@
 -- Rows and tables that are loaded.
 use Prim.Native.Nat.{ℕ, zero, suc, ◌+◌, ◌-◌, ◌*◌, min, ◌≤◌, ◌<◌}
-use mathlib.Core.Path.{◌≡◌, refl, sym, ap, ◌∙◌}
+use mathlib.Core.Path.{◌≡◌, refl, sym, ◌∙◌}
 use mathlib.Core.Logic.{◌⊎◌, inl, inr, ⊎_elim}
 use mathlib.Core.List.{List, [], ◌∷◌, ◌++◌, append_assoc}
 use native.Mathlib.Omega.{arith}
 use lib.Ieee.{Float, nan}
-use lib.ListN.{length, get_or, take, drop, length-take, length-drop, length-append}
-use lib.Seq.{ext_get_or, take-append-le, drop_at, take_at, get_or-take, get_or-drop, length-take-le, take-length, take_all, drop-drop}
-use Rattle.rows.specs.Lists.{list_to}
+use lib.ListN.{length, get_or, take, drop, length-take, length-drop}
+use lib.Seq.{ext_get_or, length-take-le, take-length, take_all, drop-drop}
 use Rattle.rows.specs.Rows.{cut, pasted}
 use Rattle.rows.proofs.RowLaws.{side, get_or-cut, get_or_before, get_d_past, length-pasted, cut_start}
-use Rattle.codec.specs.Format.{Bytes, Format}
-use Rattle.codec.specs.Items.{list}
+use Rattle.codec.specs.Format.{Bytes}
 use Rattle.map.specs.MapFile.{lane, line_string, signal, crosswalk, rule}
 use Rattle.map.specs.Tables.{lane_in, line_string_in, signal_in, crosswalk_in, rule_in}
 use Rattle.store.specs.Layout.{limit_of, width_of, base_of, coord_width_of, coord_base_of, all_words, all_coords, place_of, coord_place_of, count_of, row_of, coords_of, records_of}
 use Rattle.store.proofs.StoreLaws.{row_ends, coords_end, open_place, open_coord_place}
 use native.Mathlib.Nat.{le_refl, suc-mul, mul-le-mul_right, min-le_left}
-use Rattle.fields.specs.Fields.{read_at, got_at, Changed, Word}
+use Rattle.fields.specs.Fields.{Changed, Word}
 use Rattle.fields.specs.declared.Place.{Place}
 use Rattle.fields.proofs.Places.{unchanged, changed_both, onto, Listed, listed_starts, listed-all, listed_more, listed_ends}
 use Rattle.records.specs.Records.{record_form, record_in, RowRead}

@@ -1,6 +1,6 @@
 -- Records of any kind, read into their places in the tables.
 use Rattle.std.specs.Prelude.{ℕ, ◌+◌, ◌*◌, ◌≤◌, ◌<◌, ◌⊎◌, ◌≡◌, List, Float, length, get_or}
-use Rattle.codec.specs.Format.{Bytes, Format}
+use Rattle.codec.specs.Format.{Bytes}
 use Rattle.codec.specs.Items.{list}
 use Rattle.store.specs.Layout.{limit_of, width_of, base_of, coord_width_of, coord_base_of, place_of, coord_place_of, count_of, row_of, coords_of, records_of}
 use Rattle.fields.specs.Fields.{read_at, got_at, Changed}

@@ -1,5 +1,5 @@
 -- What the readers of the tables answer, over plain lists and numbers. Assumes nothing.
-use Prim.Native.Nat.{ℕ, zero, suc, ◌+◌, ◌-◌, ◌*◌, ◌/◌, ◌≤◌, ◌<◌}
+use Prim.Native.Nat.{ℕ, ◌+◌, ◌-◌, ◌*◌, ◌/◌, ◌≤◌, ◌<◌}
 use mathlib.Core.Path.{◌≡◌, refl, sym, ap, ◌∙◌}
 use mathlib.Core.Bool.{Bool, true, false, not, cond}
 use mathlib.Core.Option.{Option, none, some}
@@ -10,24 +10,17 @@ use borrow.Author.Tests.{lt-ltb, le-ltb, ltb-true, ne_eqb}
 use lib.Dec.{eqb, ltb}
 use lib.Ieee.{Float, nan}
 use lib.ListN.{length, get_or, take, drop}
-use Rattle.geometry.specs.declared.Point3.{Point3}
-use Rattle.geometry.specs.Point.{at3}
 use Rattle.geometry.specs.Polyline.{Polyline, point_in, polyline_of, reversed}
-use Rattle.rows.specs.Lists.{list_to}
 use Rattle.rows.specs.Table.{find, holds}
-use Rattle.rows.specs.Rows.{cut, numbers_at, index_of}
+use Rattle.rows.specs.Rows.{cut}
 use Rattle.rows.proofs.RowLaws.{get_or-cut, length_cut, cut_cut, take-cut}
 use Rattle.rows.proofs.Indexed.{list_to_same, list_to-cut}
 use Rattle.store.specs.Layout.{width_of, base_of, limit_of, place_of, coord_place_of, coord_width_of, count_of, row_of, coords_of, records_of, SizedWords, all_words, all_coords}
 use Rattle.store.proofs.StoreLaws.{row_ends, coords_end}
 use Rattle.store.proofs.FindLaws.{find_record, holds_record}
-use Rattle.map.specs.declared.Found.{Found}
 use Rattle.map.specs.declared.Found.TheVariants.{At, Nothing}
-use Rattle.map.specs.declared.LaneRow.{LaneRow}
-use Rattle.map.specs.declared.RuleHead.{RuleHead}
-use Rattle.map.specs.declared.Entries.{Entries}
-use Rattle.map.specs.Record.{BoundaryRef, Lane, LineString, Signal, Crosswalk, Rule, Map}
-use Rattle.map.specs.Entity.{EntityRef, entity, has}
+use Rattle.map.specs.Record.{BoundaryRef, LineString, Map}
+use Rattle.map.specs.Entity.{has}
 use Rattle.map.specs.Lookup.{lane_of, boundary_of, line_of, signal_of, rule_of, oriented}
 use Rattle.map.specs.Tables.{flag_at, list_at, point_from, line_at, lane_in, line_string_in, signal_in, crosswalk_in, rule_in, map_of}
 use Rattle.map.specs.Access.{index_in, lookup, lane_of_row, LaneRead, HasRead, HeadRead, ListRead}

@@ -1,23 +1,21 @@
 -- A record that is replaced by its number is the one that stands at its index, since numbers rise. Assumes nothing.
 use Prim.Native.Nat.{ℕ, zero, suc, ◌+◌, ◌≤◌, ◌<◌}
 use mathlib.Core.Path.{◌≡◌, refl, sym, ap, ◌∙◌}
-use mathlib.Core.Bool.{Bool, true, false, ◌&&◌, cond}
-use mathlib.Core.Option.{Option, none, some}
+use mathlib.Core.Bool.{true, ◌&&◌}
 use mathlib.Core.List.{List, [], ◌∷◌}
 use native.Mathlib.Omega.{arith}
 use borrow.Author.Tests.{leb-true, eq-eqb, ne_eqb}
-use lib.Dec.{leb, ltb, eqb}
+use lib.Dec.{leb, ltb}
 use lib.Ieee.{Float}
 use lib.ListN.{length, get_or, set}
-use Rattle.rows.specs.Lists.{every, list_to}
-use Rattle.rows.specs.Table.{find, replaced, rising}
+use Rattle.rows.specs.Lists.{every}
+use Rattle.rows.specs.Table.{replaced, rising}
 use Rattle.rows.proofs.Indexed.{get_or-list_to, length-list_to}
 use Rattle.rows.proofs.Tables.{found_is}
 use Rattle.codec.specs.Format.{both}
 use Rattle.store.specs.Layout.{count_of, row_of, coords_of, records_of}
-use Rattle.map.specs.declared.Found.{Found}
-use Rattle.map.specs.declared.Found.TheVariants.{At, Nothing}
-use Rattle.map.specs.Record.{Rule, Map}
+use Rattle.map.specs.declared.Found.TheVariants.{At}
+use Rattle.map.specs.Record.{Rule}
 use Rattle.map.specs.Tables.{rule_in, map_of}
 use Rattle.map.specs.Access.{lookup}
 use Rattle.map.proofs.ReadLaws.{rule_number_lem, found_index, found_record}

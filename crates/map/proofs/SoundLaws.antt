@@ -1,8 +1,7 @@
 -- What tables that are a map's give to those who read them. Assumes nothing.
 use Prim.Native.Nat.{ℕ, zero, suc, ◌+◌, ◌*◌, ◌≤◌, ◌<◌}
-use mathlib.Core.Path.{◌≡◌, refl, sym, ap, ◌∙◌}
-use mathlib.Core.Bool.{Bool, true, false, not, ◌&&◌, cond}
-use mathlib.Core.Option.{Option, none, some}
+use mathlib.Core.Path.{◌≡◌, ◌∙◌}
+use mathlib.Core.Bool.{Bool, true, false, ◌&&◌}
 use mathlib.Core.Logic.{◌⊎◌, ⊎_elim}
 use mathlib.Core.List.{List, [], ◌∷◌}
 use native.Mathlib.Nat.{eq-or-lt_of_le}
@@ -11,19 +10,17 @@ use borrow.Author.Tests.{leb-true, eqb-true, eqb-false}
 use lib.Dec.{leb, eqb}
 use lib.Ieee.{Float}
 use lib.ListN.{length, get_or}
-use Rattle.rows.specs.Lists.{every, list_to}
+use Rattle.rows.specs.Lists.{every}
 use Rattle.rows.proofs.Indexed.{tab, list_to_tab, length-list_to}
-use Rattle.store.specs.Layout.{limit_of, count_of, row_of, coords_of, records_of, SizedWords, Sized, all_words, all_coords}
+use Rattle.store.specs.Layout.{limit_of, count_of, row_of, coords_of, records_of, Sized, all_words, all_coords}
 use Rattle.store.proofs.StoreLaws.{length_records}
-use Rattle.codec.specs.Format.{Format, ◌⊗◌, via, only, both}
+use Rattle.codec.specs.Format.{◌⊗◌, via, both}
 use Rattle.codec.specs.Number.{number, split}
-use Rattle.codec.specs.Items.{list, option}
 use Rattle.codec.proofs.Fits.{list_few}
-use Rattle.map.specs.Record.{Lane, LineString, Signal, Crosswalk, RuleBody, Rule, Map}
-use Rattle.map.specs.Ceilings.{if_there, body_within, rule_within}
+use Rattle.map.specs.Ceilings.{body_within, rule_within}
 use Rattle.map.specs.MapFile.{polyline, point, lane, line_string, rule, is_map}
-use Rattle.map.specs.Tables.{flag_at, list_at, line_at, lane_in, line_string_in, signal_in, crosswalk_in, body_of, rule_in, map_of, is_map_tables}
-use Rattle.map.proofs.Parts.{Parts, map-parts, table_few, table_each, rules_within, option_if}
+use Rattle.map.specs.Tables.{list_at, line_at, lane_in, line_string_in, signal_in, crosswalk_in, body_of, rule_in, map_of, is_map_tables}
+use Rattle.map.proofs.Parts.{Parts, map-parts, table_few, table_each, rules_within}
 
 every_left : {A : Type 0} (p : A → Bool) (g : ℕ → A) (i n : ℕ) → every p (tab g i n) ≡ true → (j : ℕ) → i ≤ j → j < i + n → p (g j) ≡ true
 unfolding every tab

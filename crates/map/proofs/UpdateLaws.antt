@@ -1,8 +1,8 @@
 -- Row edits against the definitions, over plain lists and numbers. Assumes nothing.
 use Prim.Native.Nat.{ℕ, zero, suc, ◌+◌, ◌-◌, ◌*◌, ◌/◌, ◌≤◌, ◌<◌, max}
 use mathlib.Core.Path.{◌≡◌, refl, sym, ap, ◌∙◌, subst}
-use mathlib.Core.Bool.{Bool, true, false, not, cond}
-use mathlib.Core.Option.{Option, none, some}
+use mathlib.Core.Bool.{not, cond}
+use mathlib.Core.Option.{none, some}
 use mathlib.Core.List.{List, [], ◌∷◌, ◌++◌}
 use native.Mathlib.Nat.{add-zero, zero-add, le_refl, max-eq_right}
 use native.Mathlib.Numerals.{add-one}
@@ -11,20 +11,18 @@ use lib.Dec.{eqb}
 use lib.Ieee.{Float, nan}
 use lib.ListN.{length, get_or, set}
 use lib.Seq.{set-set}
-use Rattle.geometry.specs.declared.Point3.{Point3}
-use Rattle.geometry.specs.Point.{at3}
-use Rattle.geometry.specs.Polyline.{Polyline, point_in, polyline_of}
+use Rattle.geometry.specs.Polyline.{point_in, polyline_of}
 use Rattle.rows.specs.Lists.{list_to}
-use Rattle.rows.specs.Rows.{cut, pasted, without}
+use Rattle.rows.specs.Rows.{pasted}
 use Rattle.rows.proofs.RowLaws.{get_or_in, get_or_before, get_d_past, length-pasted, cut_whole, pasted_cons, set-pasted}
 use Rattle.rows.proofs.Indexed.{list_to_same, list_to-cut}
-use Rattle.store.specs.Layout.{width_of, limit_of, place_of, coord_width_of, next_of, count_of, row_of, coords_of, records_of, SizedWords, Sized, Same, Kept, set_next, push_row, put_part, put_coords, drop_row, drop_coords, all_words, all_coords}
+use Rattle.store.specs.Layout.{width_of, limit_of, coord_width_of, next_of, count_of, row_of, coords_of, records_of, SizedWords, Sized, Kept, set_next, push_row, put_part, put_coords, drop_row, drop_coords, all_coords}
 use Rattle.store.proofs.StoreLaws.{Filled, filled_none, filled_more, coord_here, coord_long, records_same, push_kept, pushed_kept, pushed_records, pushed_next, put_kept, put_all_kept, put_records, put_row, put_next, put_count, drop_all_kept, drop_records, drop_next, drop_count}
-use Rattle.map.specs.Record.{BoundaryRef, Lane, LineString, Bulb, Signal, Crosswalk, RuleBody, light, sign, marking, right_of_way, crossing, other, Rule, Map}
-use Rattle.map.specs.Rows.{fresh, with_line, with_signal, with_rule, with_rules, rule_with}
+use Rattle.map.specs.Record.{light, crossing, Rule, Map}
+use Rattle.map.specs.Rows.{with_rules, rule_with}
 use Rattle.map.specs.Tables.{flag_at, list_at, point_from, line_at, lane_in, line_string_in, bulb_at, signal_in, crosswalk_in, body_of, rule_in, map_of}
 use Rattle.map.specs.Updates.{LinePushed, signal_of_parts, SignalPushed, new_body, RulePushed, with_list, with_rule_line, RulePut, RuleDropped}
-use Rattle.map.proofs.ReadLaws.{length_row, length_coords, list_in_lem}
+use Rattle.map.proofs.ReadLaws.{length_row, length_coords}
 
 -- ---- the sizes of the kinds
 

@@ -1,6 +1,6 @@
 -- A record is known by kind and number, and present where the tables hold it.
 use Prim.Native.Nat.{ℕ, ◌+◌, compare, Ordering}
-use Rattle.std.specs.Prelude.{Bool, true, false, ◌&&◌, ◌||◌, cond, List, [], ◌∷◌, eqb, length}
+use Rattle.std.specs.Prelude.{Bool, false, ◌&&◌, ◌||◌, cond, List, [], ◌∷◌, eqb, length}
 use Rattle.std.proofs.Math.Option.{Option, none, some}
 use Rattle.rows.specs.Lists.{by_order}
 use Rattle.rows.specs.Table.{find, holds}

@@ -1,6 +1,6 @@
 -- The map that two lists stand for: words and coordinates, laid out as docs/TABLES.md says. Counts are taken as they stand, so a list, a polyline or a
 -- table whose count is past its room stands for a list of that length, and that is no map.
-use Rattle.std.specs.Prelude.{ℕ, zero, suc, ◌+◌, ◌*◌, Bool, true, false, ◌&&◌, not, cond, List, eqb, Float, length, get_or}
+use Rattle.std.specs.Prelude.{ℕ, zero, suc, ◌+◌, ◌*◌, Bool, ◌&&◌, not, cond, List, eqb, Float, length, get_or}
 use Rattle.std.proofs.Math.Option.{Option, none, some}
 use Rattle.std.specs.Float.{nan}
 use Rattle.geometry.specs.declared.Point3.{Point3}
@@ -8,7 +8,7 @@ use Rattle.geometry.specs.Point.{at3}
 use Rattle.geometry.specs.Polyline.{Polyline}
 use Rattle.rows.specs.Lists.{list_to}
 use Rattle.store.specs.Layout.{all_words, all_coords, next_of, records_of}
-use Rattle.map.specs.Record.{BoundaryRef, Lane, LineString, Bulb, Signal, Crosswalk, RuleBody, light, sign, marking, right_of_way, crossing, other, Rule, Map}
+use Rattle.map.specs.Record.{Lane, LineString, Bulb, Signal, Crosswalk, RuleBody, light, sign, marking, right_of_way, crossing, other, Rule, Map}
 use Rattle.map.specs.MapFile.{is_map}
 
 -- ---- fields; r is a row of words, c its coordinates

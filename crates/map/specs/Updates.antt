@@ -1,12 +1,12 @@
 -- What the row edits leave. They cannot refuse: room and number are asked for before.
 use Rattle.std.specs.Prelude.{ℕ, zero, suc, ◌+◌, ◌-◌, ◌*◌, ◌/◌, ◌<◌, ◌≡◌, not, cond, List, [], ◌∷◌, eqb, Float, length, get_or, set}
-use Rattle.std.proofs.Math.Option.{Option, none, some}
+use Rattle.std.proofs.Math.Option.{none, some}
 use Rattle.std.specs.Float.{nan}
 use Rattle.geometry.specs.Polyline.{polyline_of}
 use Rattle.rows.specs.Lists.{list_to}
 use Rattle.rows.specs.Rows.{pasted, without}
 use Rattle.store.specs.Layout.{count_of, row_of, coords_of, all_coords, Kept}
-use Rattle.map.specs.Record.{Bulb, Signal, RuleBody, light, sign, marking, other, Map}
+use Rattle.map.specs.Record.{Signal, RuleBody, light, sign, marking, other}
 use Rattle.map.specs.Rows.{with_line, with_signal, with_rule, with_rules}
 use Rattle.map.specs.Tables.{option_at, point_from, rule_in, map_of}
 

@@ -1,8 +1,7 @@
 -- The tables of a map file, one after the other.
-use Prim.Native.Nat.{ℕ, zero, suc, ◌+◌, ◌≤◌, ◌<◌}
-use mathlib.Core.Path.{◌≡◌, refl, sym, ap, ◌∙◌}
+use Prim.Native.Nat.{ℕ, suc, ◌+◌, ◌≤◌, ◌<◌}
+use mathlib.Core.Path.{◌≡◌, refl, sym, ◌∙◌}
 use mathlib.Core.Bool.{Bool, true, false, cond}
-use mathlib.Core.Option.{Option, none, some}
 use mathlib.Core.List.{List, [], ◌∷◌}
 use native.Mathlib.Omega.{arith}
 use lib.Dec.{leb}
@@ -19,7 +18,7 @@ use Rattle.fields.specs.Fields.{read_at, got_at, largest, Word}
 use Rattle.fields.proofs.Places.{range_any}
 use Rattle.fields.specs.declared.Place.{Place}
 use Rattle.fields.specs.declared.Place.TheVariants as P
-use Rattle.checking.specs.Checking.{record_points, table_form, seen, TableChecked}
+use Rattle.checking.specs.Checking.{record_points, seen, TableChecked}
 use Rattle.checking.specs.declared.Checked.{Checked}
 use Rattle.mapfile.specs.MapBytes.{is_there, is_map_file, marks, mark_points, lines, line_points, table_points, MarksChecked, LinesChecked, TablesChecked}
 

@@ -1,27 +1,26 @@
 -- Tables loaded one after the other: what a table holds stays while those after it are loaded.
 use Prim.Native.Nat.{ℕ, zero, suc, ◌+◌, ◌*◌, ◌≤◌, ◌<◌}
-use mathlib.Core.Path.{◌≡◌, refl, sym, ap, ◌∙◌}
-use mathlib.Core.Logic.{◌⊎◌, inl, inr}
+use mathlib.Core.Path.{◌≡◌, refl, ◌∙◌}
+use mathlib.Core.Logic.{◌⊎◌, inl}
 use mathlib.Core.List.{List}
 use native.Mathlib.Omega.{arith}
 use lib.Ieee.{Float, nan}
-use lib.ListN.{length, get_or}
-use Rattle.rows.specs.Lists.{list_to}
+use lib.ListN.{get_or}
 use Rattle.rows.proofs.Indexed.{list_to_same}
-use Rattle.codec.specs.Format.{Bytes, Format, ◌⊗◌}
+use Rattle.codec.specs.Format.{Bytes, ◌⊗◌}
 use Rattle.codec.specs.Number.{number}
 use Rattle.codec.specs.Items.{list}
 use Rattle.map.specs.MapFile.{lane, line_string, signal, crosswalk, rule}
-use Rattle.map.specs.Tables.{lane_in, line_string_in, signal_in, crosswalk_in, rule_in}
-use Rattle.store.specs.Layout.{limit_of, width_of, base_of, coord_width_of, coord_base_of, place_of, coord_place_of, next_of, count_of, row_of, coords_of, records_of, all_words, all_coords}
+use Rattle.map.specs.Tables.{lane_in, line_string_in, signal_in, crosswalk_in}
+use Rattle.store.specs.Layout.{limit_of, width_of, base_of, coord_width_of, coord_base_of, place_of, coord_place_of, next_of, count_of, row_of, coords_of, records_of}
 use Rattle.store.proofs.StoreLaws.{open_place, open_coord_place}
-use Rattle.fields.specs.Fields.{read_at, got_at, Changed, largest, Word}
+use Rattle.fields.specs.Fields.{largest, Word}
 use Rattle.fields.specs.declared.Place.{Place}
 use Rattle.fields.specs.declared.Place.TheVariants as P
 use Rattle.fields.proofs.Places.{place_then, range_any}
 use Rattle.loading.specs.Loading.{TableLoaded}
 use Rattle.loading.proofs.LoadLaws.{cut_same, rows_lie}
-use Rattle.mapload.specs.MapLoad.{Before, mark_lists, line_lists, marks_in, lines_in, MarksLoaded, LinesLoaded, MapLoaded}
+use Rattle.mapload.specs.MapLoad.{Before, mark_lists, line_lists, MarksLoaded, LinesLoaded, MapLoaded}
 
 -- ---- the layout
 

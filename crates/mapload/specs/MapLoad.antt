@@ -1,10 +1,10 @@
 -- A map file loaded into the tables.
-use Rattle.std.specs.Prelude.{ℕ, suc, ◌+◌, ◌≤◌, ◌<◌, ◌≡◌, List, Float, length, get_or}
+use Rattle.std.specs.Prelude.{ℕ, ◌+◌, ◌≤◌, ◌<◌, ◌≡◌, List, Float, length, get_or}
 use Rattle.std.specs.Float.{nan}
 use Rattle.codec.specs.Format.{Bytes, Format, ◌⊗◌}
 use Rattle.codec.specs.Number.{number}
 use Rattle.codec.specs.Items.{list}
-use Rattle.map.specs.Record.{Lane, LineString, Signal, Crosswalk, Rule}
+use Rattle.map.specs.Record.{LineString, Signal, Crosswalk, Rule}
 use Rattle.map.specs.MapFile.{lane, line_string, signal, crosswalk, rule}
 use Rattle.map.specs.Tables.{lane_in, line_string_in, signal_in, crosswalk_in, rule_in}
 use Rattle.store.specs.Layout.{base_of, coord_base_of, next_of, records_of}

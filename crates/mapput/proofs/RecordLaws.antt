@@ -1,15 +1,15 @@
 -- Records written field by field.
 use Prim.Native.Nat.{ℕ, zero, suc, ◌+◌, ◌≤◌, ◌<◌}
-use mathlib.Core.Path.{◌≡◌, refl, sym, ap, ◌∙◌}
-use mathlib.Core.Bool.{Bool, true, false, not, cond}
-use mathlib.Core.Option.{Option, none, some}
-use mathlib.Core.List.{List, [], ◌∷◌, ◌++◌, append_assoc}
+use mathlib.Core.Path.{◌≡◌, refl, ◌∙◌}
+use mathlib.Core.Bool.{not, cond}
+use mathlib.Core.Option.{none, some}
+use mathlib.Core.List.{List, [], ◌∷◌, ◌++◌}
 use native.Mathlib.Omega.{arith}
 use lib.Dec.{eqb}
 use lib.Ieee.{Float, nan}
-use lib.ListN.{length, get_or}
+use lib.ListN.{get_or}
 use Rattle.rows.specs.Lists.{list_to}
-use Rattle.codec.specs.Format.{Bytes, Format, ◌⊗◌, via, only, tagged}
+use Rattle.codec.specs.Format.{Bytes, ◌⊗◌, via, only, tagged}
 use Rattle.codec.specs.Number.{number}
 use Rattle.codec.specs.Items.{below, from, list, flag, option}
 use Rattle.map.specs.MapFile.{polyline, height, boundary_ref, numbers, lane, line_string, signal, bulb, crosswalk, body, rule}

@@ -1,14 +1,13 @@
 -- Records of any kind, tables and the map, written from the tables.
 use Prim.Native.Nat.{ℕ, zero, suc, ◌+◌, ◌-◌, ◌*◌, ◌≤◌, ◌<◌}
-use mathlib.Core.Path.{◌≡◌, refl, sym, ap, ◌∙◌}
+use mathlib.Core.Path.{◌≡◌, refl, ◌∙◌}
 use mathlib.Core.List.{List, [], ◌∷◌, ◌++◌}
 use native.Mathlib.Omega.{arith}
 use lib.Ieee.{Float}
 use lib.ListN.{length, get_or, take, drop, length-drop}
 use lib.Seq.{length-take-le}
-use Rattle.rows.specs.Lists.{list_to}
 use Rattle.rows.specs.Rows.{cut}
-use Rattle.codec.specs.Format.{Bytes, Format, ◌⊗◌, via, only, tagged, counted}
+use Rattle.codec.specs.Format.{Bytes, ◌⊗◌, via, only, tagged, counted}
 use Rattle.codec.specs.Number.{number}
 use Rattle.codec.specs.Items.{list}
 use Rattle.map.specs.MapFile.{lane, line_string, signal, crosswalk, rule, table, tables, map_file}

@@ -1,9 +1,9 @@
 -- Closed cases of placing on the map of the worked crossings: where the line goes, and how many warnings there are.
 use Prim.Native.Nat.{ℕ}
 use mathlib.Core.Path.{◌≡◌, refl}
-use mathlib.Core.Bool.{Bool, true, false}
+use mathlib.Core.Bool.{true, false}
 use mathlib.Core.Option.{none}
-use mathlib.Core.List.{List, [], ◌∷◌, ◌++◌}
+use mathlib.Core.List.{[], ◌∷◌, ◌++◌}
 use lib.Ieee.{Float, neg}
 use lib.ListN.{length}
 use Rattle.refusal.specs.Answer.{Answer, refused, done}

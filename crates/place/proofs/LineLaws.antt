@@ -1,5 +1,5 @@
 -- Lines by value, a side of a lane, and its centreline.
-use Prim.Native.Nat.{ℕ, zero, suc, ◌+◌, ◌*◌, ◌/◌, ◌≤◌, ◌<◌, max}
+use Prim.Native.Nat.{ℕ, suc, ◌+◌, ◌*◌, ◌/◌, ◌≤◌, ◌<◌, max}
 use mathlib.Core.Path.{◌≡◌, refl, sym, ap, ap₂, ◌∙◌}
 use mathlib.Core.Bool.{Bool, true, false, not, cond, true≢false}
 use mathlib.Core.Option.{Option, none, some}
@@ -12,30 +12,28 @@ use lib.ListN.{length, get_or, take, length-take}
 use lib.Seq.{get_or-take}
 use borrow.Author.Tests.{not-true, not-false, eqb-true}
 use Rattle.rows.specs.Lists.{list_to}
-use Rattle.rows.specs.Table.{find}
 use Rattle.rows.specs.Rows.{pasted}
 use Rattle.rows.proofs.RowLaws.{get_or_in}
 use Rattle.rows.proofs.Indexed.{length-list_to, list_to_same}
 use Rattle.geometry.specs.declared.Point2.{Point2}
-use Rattle.geometry.specs.declared.Point3.{Point3}
 use Rattle.geometry.specs.declared.NearestPoint.{NearestPoint}
 use Rattle.geometry.specs.Polyline.{Polyline, point_in, polyline_of, reversed, middle, centerline, nearest_point}
 use Rattle.polyline.proofs.Lines.{length-points}
 use Rattle.centerline.specs.declared.Line.{Line}
 use Rattle.centerline.specs.Line.{points_of, line_option}
 use Rattle.centerline.proofs.Made.{reversed_is}
-use Rattle.store.specs.Layout.{SizedWords, limit_of, width_of, coord_width_of, count_of, row_of, coords_of, records_of, all_coords}
+use Rattle.store.specs.Layout.{SizedWords, limit_of, width_of, coord_width_of, count_of, row_of, coords_of, all_coords}
 use Rattle.map.specs.declared.Found.{Found}
 use Rattle.map.specs.declared.Found.TheVariants.{At, Nothing}
 use Rattle.map.specs.declared.LaneRow.{LaneRow}
-use Rattle.map.specs.Record.{BoundaryRef, Lane, LineString, Map}
+use Rattle.map.specs.Record.{Lane, LineString, Map}
 use Rattle.map.specs.Lookup.{lane_of, boundary_of, oriented}
 use Rattle.map.specs.Tables.{line_at, lane_in, line_string_in, map_of}
 use Rattle.map.specs.Access.{lookup, LaneRead, lane_of_row}
 use Rattle.map.proofs.ReadLaws.{found_index, found_record, none_record, lane_number, line_number}
 use Rattle.place.specs.declared.MaybeLine.{MaybeLine}
 use Rattle.place.specs.Place.{between, centerline_of, lane_centerline}
-use Rattle.place.specs.Readable.{ReadableWords, Readable}
+use Rattle.place.specs.Readable.{Readable}
 use Rattle.place.specs.Values.{maybe_line, Roomy, LineRead, side_of, between_sides, nearest_in}
 
 -- ---- points as coordinates

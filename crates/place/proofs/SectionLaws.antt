@@ -18,7 +18,6 @@ use Rattle.geometry.specs.declared.MaybePoint2.{MaybePoint2}
 use Rattle.geometry.specs.declared.MaybePoint2.TheVariants as p2
 use Rattle.geometry.specs.declared.MaybePoint3.{MaybePoint3}
 use Rattle.geometry.specs.declared.MaybePoint3.TheVariants as p3
-use Rattle.geometry.specs.declared.MaybeNearest.{MaybeNearest}
 use Rattle.geometry.specs.declared.MaybeNearest.TheVariants as near
 use Rattle.geometry.specs.Double.{◌⊖◌, milli}
 use Rattle.geometry.specs.Maybe.{maybe_point2, maybe_point3, maybe_nearest}
@@ -26,7 +25,7 @@ use Rattle.geometry.specs.Point.{xy, sub2, dot, perp}
 use Rattle.geometry.specs.Polyline.{Polyline, polyline_of, point_at, direction_at, nearest_point}
 use Rattle.centerline.specs.declared.Line.{Line}
 use Rattle.centerline.specs.Line.{points_of}
-use Rattle.store.specs.Layout.{SizedWords, row_of, coords_of}
+use Rattle.store.specs.Layout.{row_of, coords_of}
 use Rattle.map.specs.declared.Found.{Found}
 use Rattle.map.specs.declared.Found.TheVariants.{At, Nothing}
 use Rattle.map.specs.declared.LaneRow.{LaneRow}
@@ -44,7 +43,7 @@ use Rattle.place.specs.declared.MaybeEnd.TheVariants as e
 use Rattle.place.specs.declared.SectionEnds.{SectionEnds}
 use Rattle.place.specs.declared.Walked.{Walked}
 use Rattle.place.specs.declared.Walked.TheVariants as w
-use Rattle.place.specs.Place.{End, Ends, Section, outer, widened, with_side, with_lane, with_lanes, section, cross_section, lane_centerline}
+use Rattle.place.specs.Place.{Ends, Section, outer, widened, with_side, with_lane, with_lanes, section, cross_section, lane_centerline}
 use Rattle.place.specs.Steps.{outer_left, outer_right, no_ends, NamedSide, with_sides, section_on}
 use Rattle.place.specs.Values.{Roomy, side_of, sides_of, no_side, side_nearest, nearest_in, end_of, maybe_end, ends_of, walked}
 use Rattle.place.proofs.LineLaws.{line_part_lem}

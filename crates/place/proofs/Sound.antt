@@ -1,8 +1,7 @@
 -- The tables of a map can be read.
 use Prim.Native.Nat.{ℕ, zero, suc, ◌+◌, ◌≤◌, ◌<◌}
-use mathlib.Core.Path.{◌≡◌, refl, sym, ap, ◌∙◌}
-use mathlib.Core.Bool.{Bool, true, false, ◌&&◌, cond}
-use mathlib.Core.Option.{Option, none, some}
+use mathlib.Core.Path.{◌≡◌, refl, ◌∙◌}
+use mathlib.Core.Bool.{Bool, true, false, ◌&&◌}
 use mathlib.Core.List.{List, [], ◌∷◌, ◌++◌}
 use native.Mathlib.Omega.{arith}
 use lib.Dec.{eqb, leb}
@@ -16,11 +15,11 @@ use Rattle.codec.specs.Format.{◌⊗◌, via}
 use Rattle.codec.specs.Number.{number}
 use Rattle.codec.specs.Items.{option}
 use Rattle.codec.proofs.Fits.{list_few, fits_option}
-use Rattle.store.specs.Layout.{limit_of, count_of, row_of, coords_of, records_of, SizedWords, all_words, all_coords}
+use Rattle.store.specs.Layout.{limit_of, count_of, row_of, coords_of, records_of, all_words, all_coords}
 use Rattle.store.proofs.StoreLaws.{length_records}
-use Rattle.map.specs.Record.{Lane, LineString, Signal, Crosswalk, Rule, Map}
+use Rattle.map.specs.Record.{Lane, LineString, Signal, Crosswalk, Rule}
 use Rattle.map.specs.Ceilings.{max_lanes, max_boundaries, max_stop_lines, max_signals, max_crosswalks, max_rules, max_line_points, max_rule_entries}
-use Rattle.map.specs.MapFile.{is_map, point, polyline, numbers, lane, line_string, signal, crosswalk, rule}
+use Rattle.map.specs.MapFile.{point, polyline, numbers, lane, line_string, signal, crosswalk, rule}
 use Rattle.map.specs.Tables.{flag_at, list_at, line_at, lane_in, line_string_in, signal_in, crosswalk_in, rule_in, map_of, is_map_tables}
 use Rattle.map.proofs.Parts.{Parts, map-parts, table_each, table_few}
 use Rattle.place.specs.Readable.{ReadableWords, Readable}

@@ -1,7 +1,7 @@
 -- The map of the worked crossings.
 use mathlib.Core.Bool.{false}
 use mathlib.Core.Option.{none}
-use mathlib.Core.List.{List, [], ◌∷◌}
+use mathlib.Core.List.{[], ◌∷◌}
 use lib.Ieee.{Float, neg}
 use Rattle.geometry.specs.Double.{whole, f0}
 use Rattle.geometry.specs.Point.{at3}

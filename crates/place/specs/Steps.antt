@@ -1,6 +1,6 @@
 -- Parts of the definitions that one function of the code answers.
 use Rattle.std.specs.Prelude.{ℕ, List, [], ◌∷◌, Float}
-use Rattle.std.proofs.Math.Option.{Option, none, some}
+use Rattle.std.proofs.Math.Option.{Option, none}
 use Rattle.std.specs.Float.Ieee.{lt}
 use Rattle.refusal.specs.Answer.{Answer, done, ◌>>=◌, present}
 use Rattle.geometry.specs.declared.Point2.{Point2}

@@ -24,7 +24,6 @@ use Rattle.place.specs.declared.MaybeEnd.TheVariants as e
 use Rattle.place.specs.declared.SectionEnds.{SectionEnds}
 use Rattle.place.specs.declared.Walked.{Walked}
 use Rattle.place.specs.declared.Walked.TheVariants as w
-use Rattle.place.specs.declared.CrossSection.{CrossSection}
 use Rattle.place.specs.declared.MaybeSection.{MaybeSection}
 use Rattle.place.specs.declared.MaybeSection.TheVariants as s
 use Rattle.place.specs.Place.{End, Ends, Section, between}

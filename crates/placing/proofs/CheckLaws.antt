@@ -1,8 +1,7 @@
 -- A list of lanes, and given points: each refusal, and what has passed.
 use Prim.Native.Nat.{ℕ, ◌/◌, ◌%◌, ◌≤◌, ◌<◌}
-use mathlib.Core.Path.{◌≡◌, refl, sym, ap, ◌∙◌}
+use mathlib.Core.Path.{◌≡◌, refl, ◌∙◌}
 use mathlib.Core.Bool.{Bool, true, false, not, ◌&&◌}
-use mathlib.Core.Option.{Option, none, some}
 use mathlib.Core.List.{List, [], ◌∷◌}
 use native.Mathlib.Omega.{arith}
 use lib.Dec.{eqb, ltb}
@@ -15,12 +14,11 @@ use Rattle.rows.specs.Lists.{every, no_entries, twice}
 use Rattle.geometry.specs.Double.{is_finite, on_map}
 use Rattle.geometry.specs.Polyline.{polyline_of, is_valid}
 use Rattle.polyline.proofs.Lines.{length-points}
-use Rattle.map.specs.Tables.{map_of}
 use Rattle.place.specs.Place.{check_lane_list, check_polyline}
 use Rattle.placing.specs.declared.Checked.TheVariants.{Fine, Refused}
 use Rattle.placing.specs.declared.MaybeNumber.{MaybeNumber}
 use Rattle.placing.specs.declared.MaybeNumber.TheVariants.{At, Nothing}
-use Rattle.placing.specs.Answers.{maybeNumber, UnknownRead, LanesChecked}
+use Rattle.placing.specs.Answers.{UnknownRead, LanesChecked}
 
 -- ---- lanes
 

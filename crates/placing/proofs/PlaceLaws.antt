@@ -1,14 +1,14 @@
 -- Where a stop line goes: each refusal, and the line.
 use Prim.Native.Nat.{ℕ, ◌+◌, ◌*◌, ◌/◌, ◌≤◌, ◌<◌}
-use mathlib.Core.Path.{◌≡◌, refl, sym, ap, ap₂, ◌∙◌}
-use mathlib.Core.Bool.{Bool, true, false, not, ◌||◌, cond}
-use mathlib.Core.Option.{Option, none, some}
+use mathlib.Core.Path.{◌≡◌, refl, sym, ap, ◌∙◌}
+use mathlib.Core.Bool.{Bool, true, false, not, ◌||◌}
+use mathlib.Core.Option.{none, some}
 use mathlib.Core.List.{List, [], ◌∷◌}
 use native.Mathlib.Omega.{arith}
 use lib.Ieee.{Float, lt}
 use lib.ListN.{length, get_or, take}
 use borrow.Author.Tests.{not-true, not-false}
-use Rattle.refusal.specs.Answer.{Answer, refused, done, refused_as, ◌>>=◌, ◌>>◌, refuse_when, present}
+use Rattle.refusal.specs.Answer.{Answer, done, ◌>>=◌, ◌>>◌}
 use Rattle.refusal.specs.declared.Refusal.{Refusal}
 use Rattle.refusal.specs.declared.Refusal.TheVariants.{BadMeasure, NoPlace}
 use Rattle.rows.specs.Lists.{list_to}
@@ -29,7 +29,7 @@ use Rattle.place.specs.declared.Placement.{Placement}
 use Rattle.place.specs.declared.Placement.TheVariants.{AtLaneEnd, AtStation, Given}
 use Rattle.place.specs.Place.{Placed, lane_centerline, cross_section, check_polyline, clamp_warning, place_at, place_as, place_stop_line}
 use Rattle.place.specs.Steps.{section_on}
-use Rattle.place.specs.Values.{maybe_line, Roomy, LineRead, section_answer}
+use Rattle.place.specs.Values.{Roomy, LineRead, section_answer}
 use Rattle.place.proofs.LineLaws.{line_part_lem, count_few}
 use Rattle.place.proofs.SectionLaws.{cross_section_is}
 use Rattle.placing.specs.declared.Checked.{Checked}

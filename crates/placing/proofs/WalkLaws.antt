@@ -1,25 +1,23 @@
 -- Walks over a list that test each entry: what is left decides.
 use Prim.Native.Nat.{ℕ, suc, ◌+◌, ◌≤◌, ◌<◌}
-use mathlib.Core.Path.{◌≡◌, refl, sym, ap, ◌∙◌}
-use mathlib.Core.Bool.{Bool, true, false, not, ◌||◌, cond}
-use mathlib.Core.Option.{Option, none, some}
+use mathlib.Core.Path.{◌≡◌, refl, sym, ◌∙◌}
+use mathlib.Core.Bool.{Bool, true, false, not, ◌||◌}
 use mathlib.Core.List.{List, [], ◌∷◌}
 use native.Mathlib.Numerals.{add-one}
 use native.Mathlib.Omega.{arith}
-use lib.Dec.{eqb, ltb}
+use lib.Dec.{ltb}
 use lib.Ieee.{Float}
 use lib.ListN.{length, get_or, drop, drop_of_length-le}
 use lib.Seq.{drop-cons}
 use borrow.Author.Tests.{not-true, not-false, eq-eqb, ne_eqb}
 use Rattle.rows.specs.Lists.{every, first_of, member, twice}
 use Rattle.rows.specs.Table.{holds}
-use Rattle.store.specs.Layout.{count_of, records_of}
+use Rattle.store.specs.Layout.{count_of}
 use Rattle.map.specs.Record.{Lane}
 use Rattle.map.specs.Lookup.{unknown_in}
 use Rattle.map.specs.Tables.{lane_in, map_of}
 use Rattle.map.specs.Access.{index_in}
 use Rattle.map.proofs.ReadLaws.{holds_here, lane_number}
-use Rattle.placing.specs.declared.MaybeNumber.{MaybeNumber}
 use Rattle.placing.specs.declared.MaybeNumber.TheVariants.{At, Nothing}
 use Rattle.placing.specs.Answers.{UnknownRead}
 

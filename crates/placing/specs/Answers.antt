@@ -1,7 +1,7 @@
 -- What the code's answers stand for.
 use Rattle.std.specs.Prelude.{ℕ, ◌≡◌, not, cond, List, [], ◌∷◌, Float}
 use Rattle.std.proofs.Math.Option.{Option, none, some}
-use Rattle.refusal.specs.Answer.{Answer, refused, done, refused_as, ◌>>=◌, ◌>>◌, refuse_when}
+use Rattle.refusal.specs.Answer.{Answer, done, refused_as, ◌>>=◌, ◌>>◌, refuse_when}
 use Rattle.refusal.specs.declared.Refusal.{Refusal}
 use Rattle.geometry.specs.Double.{f0, is_finite, clamp}
 use Rattle.geometry.specs.Polyline.{Polyline, polyline_of}
@@ -10,7 +10,7 @@ use Rattle.map.specs.Record.{Map}
 use Rattle.map.specs.Entity.{entity}
 use Rattle.map.specs.Lookup.{unknown_in}
 use Rattle.map.specs.Tables.{map_of}
-use Rattle.changes.specs.ChangeSet.{Warning, warning}
+use Rattle.changes.specs.ChangeSet.{warning}
 use Rattle.place.specs.Place.{Placed, check_lane_list, check_polyline, clamp_warning}
 use Rattle.place.specs.Steps.{section_on}
 use Rattle.place.specs.Values.{Roomy, maybe_ends}

@@ -1,19 +1,17 @@
 -- The fields of a map's records, written from a row.
-use Prim.Native.Nat.{ℕ, zero, suc, ◌+◌, ◌-◌, ◌*◌, ◌^◌, min, ◌≤◌, ◌<◌}
-use mathlib.Core.Path.{◌≡◌, refl, sym, ap, ◌∙◌, subst}
-use mathlib.Core.Bool.{Bool, true, false, not, cond}
-use mathlib.Core.Option.{Option, none, some}
+use Prim.Native.Nat.{ℕ, suc, ◌+◌, ◌-◌, ◌*◌, ◌^◌, min, ◌≤◌, ◌<◌}
+use mathlib.Core.Path.{◌≡◌, refl, sym, ◌∙◌, subst}
+use mathlib.Core.Bool.{true, not, cond}
+use mathlib.Core.Option.{none, some}
 use mathlib.Core.List.{List, [], ◌∷◌, ◌++◌, append-nil}
 use native.Mathlib.Omega.{arith}
 use native.Mathlib.Nat.{min-eq_left, min-eq_right}
-use native.Mathlib.Numerals.{add-one}
 use lib.Dec.{T, eqb, leb}
-use lib.Ieee.{Float, nan, inf, fin, binary64, to_bits, is_nan, ne}
+use lib.Ieee.{Float, nan, to_bits, ne}
 use lib.ListN.{length, get_or, set, get_or-eq_default}
 use lib.Seq.{sets}
 use borrow.Author.Tests.{eq-eqb, ne_eqb, leb-true, leb-false}
 use Rattle.rows.specs.Lists.{list_to}
-use Rattle.rows.proofs.Indexed.{list_to_same}
 use lib.Ieee.Compare.{differs_from_itself}
 use Rattle.geometry.proofs.Doubles.{no_nan}
 use Rattle.codec.specs.Format.{Bytes, Format, ◌⊗◌, via, only, tagged, nothing}

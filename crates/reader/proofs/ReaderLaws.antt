@@ -14,7 +14,7 @@ use Rattle.files.specs.ReadInto.{MapReadInto, ChangesReadInto}
 use Rattle.files.specs.declared.MapRead.{MapRead}
 use Rattle.files.specs.declared.ChangesRead.{ChangesRead}
 use Rattle.reader.specs.declared.Reader.{Reader}
-use Rattle.reader.specs.Next.{unused, place_after, taken, NumberTaken}
+use Rattle.reader.specs.Next.{place_after, taken, NumberTaken}
 
 -- past the end no bytes are left, wherever the place is
 pub past : (s : Bytes) (at : ℕ) → length s ≤ at → drop (length s) s ≡ drop at s

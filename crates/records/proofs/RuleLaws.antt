@@ -1,21 +1,18 @@
 -- A rule from its kind and its fields.
 use Prim.Native.Nat.{ℕ, zero, suc, ◌+◌, ◌≤◌, ◌<◌}
-use mathlib.Core.Path.{◌≡◌, refl, sym, ap, ◌∙◌}
+use mathlib.Core.Path.{◌≡◌, refl, ◌∙◌}
 use mathlib.Core.Logic.{◌⊎◌, inl, inr, ⊎_elim}
-use mathlib.Core.Bool.{Bool, true, not, cond}
-use mathlib.Core.Option.{Option, none, some}
+use mathlib.Core.Bool.{true}
 use mathlib.Core.List.{List}
 use native.Mathlib.Omega.{arith}
-use lib.Dec.{eqb, leb}
 use lib.Ieee.{Float}
-use lib.ListN.{length, get_or, drop}
-use Rattle.rows.specs.Lists.{list_to}
+use lib.ListN.{length, get_or}
 use Rattle.rows.proofs.Indexed.{list_to_same}
-use Rattle.codec.specs.Format.{Bytes, Read, fault, got, and_then, Format, ◌⊗◌, via, tagged, never, only, no_got}
+use Rattle.codec.specs.Format.{Bytes, fault, Format, ◌⊗◌, via, tagged, never}
 use Rattle.codec.specs.Number.{number}
 use Rattle.codec.specs.Items.{from, option}
 use Rattle.map.specs.MapFile.{polyline, numbers, Fields, fields, to_body, body, rule}
-use Rattle.map.specs.Tables.{flag_at, option_at, list_at, line_at, body_of, rule_in}
+use Rattle.map.specs.Tables.{flag_at, list_at, body_of, rule_in}
 use Rattle.fields.specs.Fields.{read_at, got_at, Changed, largest, Word, Numbers, OptionLine, OptionNumber}
 use Rattle.fields.specs.declared.Place.{Place}
 use Rattle.fields.specs.declared.Place.TheVariants as P

@@ -1,25 +1,23 @@
 -- A field that was read, as it stands in the row once the fields after it are read too.
 use Prim.Native.Nat.{ℕ, zero, suc, ◌+◌, ◌*◌, ◌≤◌, ◌<◌}
-use mathlib.Core.Path.{◌≡◌, refl, sym, ap, ◌∙◌}
-use mathlib.Core.Logic.{◌⊎◌, inl, inr}
-use mathlib.Core.Bool.{Bool, true, false, not, cond}
-use mathlib.Core.Option.{none, some}
+use mathlib.Core.Path.{◌≡◌, refl, ◌∙◌}
+use mathlib.Core.Logic.{◌⊎◌, inl}
+use mathlib.Core.Bool.{not}
 use mathlib.Core.List.{List}
 use native.Mathlib.Omega.{arith}
 use lib.Dec.{eqb}
 use lib.Ieee.{Float, nan}
-use lib.ListN.{length, get_or}
-use Rattle.rows.specs.Lists.{list_to}
+use lib.ListN.{get_or}
 use Rattle.rows.proofs.Indexed.{list_to_same}
-use Rattle.codec.specs.Format.{Bytes, Format, ◌⊗◌, via}
-use Rattle.codec.specs.Number.{number, split}
+use Rattle.codec.specs.Format.{Bytes, ◌⊗◌}
+use Rattle.codec.specs.Number.{number}
 use Rattle.codec.specs.Items.{below, flag, option}
-use Rattle.map.specs.MapFile.{polyline, boundary_ref, height, numbers}
-use Rattle.map.specs.Tables.{flag_at, option_at, list_at, line_at, point_from}
-use Rattle.fields.specs.Fields.{read_at, got_at, Changed, range, largest, Word, Numbers, Line, OptionLine, OptionNumber, OptionHeight}
+use Rattle.map.specs.MapFile.{polyline, boundary_ref, height}
+use Rattle.map.specs.Tables.{flag_at, option_at, line_at, point_from}
+use Rattle.fields.specs.Fields.{read_at, got_at, Changed, range, largest, Word, Line, OptionHeight}
 use Rattle.fields.specs.declared.Place.{Place}
 use Rattle.records.specs.Records.{side_at, SideRead}
-use Rattle.fields.proofs.Places.{changed_both, place_then, place_via, range_any, range_from, range_below}
+use Rattle.fields.proofs.Places.{changed_both, place_then, place_via, range_any, range_below}
 
 -- everything below a is as it was
 pub record Kept {A : Type 0} (l : List A) (a : ℕ) (l' : List A) : Type 0 where

@@ -5,10 +5,9 @@ use Rattle.codec.specs.Format.{Bytes, Format, ◌⊗◌, nothing}
 use Rattle.codec.specs.Number.{number}
 use Rattle.codec.specs.Items.{from, option}
 use Rattle.geometry.specs.Polyline.{Polyline}
-use Rattle.map.specs.Record.{BoundaryRef, Lane, LineString, Signal, Crosswalk, RuleBody, Rule}
+use Rattle.map.specs.Record.{BoundaryRef, Lane, LineString, Signal, Crosswalk, Rule}
 use Rattle.map.specs.MapFile.{polyline, boundary_ref, lane, line_string, signal, crosswalk, body, rule}
 use Rattle.map.specs.Tables.{flag_at, option_at, list_at, line_at, lane_in, line_string_in, signal_in, crosswalk_in, body_of, rule_in}
-use Rattle.map.specs.Ceilings.{lane_points, line_string_points, signal_points, crosswalk_points, rule_points}
 use Rattle.fields.specs.Fields.{read_at, got_at, Changed}
 use Rattle.fields.specs.declared.Place.{Place}
 

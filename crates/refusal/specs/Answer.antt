@@ -1,5 +1,5 @@
 -- What a call answers: a refusal, by its number and its details, or a result. An order of checks is a `do` block, one line a check.
-use Rattle.std.specs.Prelude.{ℕ, Bool, true, false, List, [], ◌∷◌}
+use Rattle.std.specs.Prelude.{ℕ, Bool, true, false, List}
 use Rattle.std.proofs.Math.Option.{Option, none, some}
 use Rattle.refusal.specs.declared.Refusal.{Refusal}
 use Rattle.refusal.specs.Refusal.{refusal_number, refusal_details}

@@ -1,15 +1,15 @@
 -- Lists whose entries are read by their index: what an edit of a table does, from what it does at each index. Assumes nothing.
-use mathlib.Core.Path.{◌≡◌, refl, sym, ap, ◌∙◌, subst, subst⁻¹}
+use mathlib.Core.Path.{◌≡◌, refl, sym, ap, ◌∙◌, subst⁻¹}
 use Prim.Native.Nat.{ℕ, zero, suc, ◌+◌, ◌-◌, ◌*◌, ◌≤◌, ◌<◌}
-use native.Mathlib.Nat.{suc-add, zero-add, add-zero, add-suc, suc-mul, add-mul, one-mul, mul-le-mul_right, le_refl}
+use native.Mathlib.Nat.{suc-add, zero-add, add-zero, suc-mul, add-mul, one-mul, mul-le-mul_right, le_refl}
 use native.Mathlib.Numerals.{add-one}
 use native.Mathlib.Omega.{arith}
 use mathlib.Core.List.{List, [], ◌∷◌, ◌++◌}
-use lib.ListN.{length, get_or, set, take, drop, length-drop}
+use lib.ListN.{length, get_or, set, drop, length-drop}
 use lib.Seq.{set_at, take_at, ext_get_or}
 use Rattle.rows.specs.Lists.{list_to}
 use Rattle.rows.specs.Rows.{without, cut, pasted, moved}
-use mathlib.Core.Logic.{◌⊎◌, inl, inr, ⊎_elim}
+use mathlib.Core.Logic.{⊎_elim}
 use Rattle.rows.proofs.RowLaws.{length_cut, get_or-cut, drop_next, cut_start, cut_whole, cut_before, cut_past, cut_in, cut-drop, side}
 
 module _ {A : Type 0} where

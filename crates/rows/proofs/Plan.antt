@@ -1,7 +1,7 @@
 -- Tables of several kinds in one list, over the layout and the element type: for words and coordinates alike. Assumes nothing.
 use Prim.Native.Nat.{ℕ, zero, suc, ◌+◌, ◌-◌, ◌*◌, ◌≤◌, ◌<◌}
 use mathlib.Core.Path.{◌≡◌, ap, ◌∙◌, subst}
-use mathlib.Core.Logic.{◌⊎◌, ⊎_elim}
+use mathlib.Core.Logic.{⊎_elim}
 use mathlib.Core.List.{List}
 use native.Mathlib.Nat.{zero-add, add-zero, suc-mul, add-mul, mul-le-mul_right, le_refl}
 use native.Mathlib.Omega.{arith}

@@ -17,7 +17,7 @@ use Rattle.map.specs.MapFile.{is_map}
 use Rattle.map.specs.Record.{Map}
 use Rattle.map.proofs.Presence.{has_form}
 use Rattle.changes.specs.ChangeFile.{lists_ok, is_set}
-use Rattle.changes.specs.ChangeSet.{ChangeSet, normalize, tally_of}
+use Rattle.changes.specs.ChangeSet.{ChangeSet, normalize}
 use Rattle.changes.specs.Running.{State, fold_ok, fold_call}
 use Rattle.changes.proofs.Entries.{set_fits}
 use Rattle.place.proofs.Answers.{went, past}

@@ -1,7 +1,6 @@
 -- A state that passes 12 and 13 passes again after a step whose set names what became of its map.
 use mathlib.Core.Path.{◌≡◌, refl}
 use mathlib.Core.Bool.{Bool, true, false, not, ◌&&◌, ◌||◌}
-use mathlib.Core.List.{List}
 use Prim.Native.Nat.{◌<◌, ◌≤◌}
 use lib.Dec.{ltb}
 use native.Mathlib.Omega.{arith}
@@ -19,7 +18,7 @@ use Rattle.changes.proofs.EntryLaws.{entries_each}
 use Rattle.changes.proofs.FoldLaws.{fold_apart}
 use Rattle.changes.proofs.Refs.{every_listed, listed_every}
 use Rattle.run.specs.Law.{passes}
-use Rattle.run.proofs.Counts.{Named, set-list, now_created, now_modified, then_deleted, gone_deleted}
+use Rattle.run.proofs.Counts.{Named, set-list, then_deleted}
 use Rattle.run.proofs.Fold.{fold_created, fold_modified, fold_deleted, fold_rises, fold_quiet, same_tally_lem}
 
 -- ---- one record through one step: p present before it, q after it; i, j and k named by the fold as created, modified and deleted; v altered by the step

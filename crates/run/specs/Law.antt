@@ -1,9 +1,9 @@
 -- What is promised of every run, in words of its own: no helper of the edits stands here.
 use Rattle.std.specs.Prelude.{ℕ, ◌+◌, max, ◌≡◌, Bool, true, false, not, ◌&&◌, ◌||◌, cond, List, [], ◌∷◌, ◌++◌, map, eqb, length}
 use Rattle.std.proofs.Math.Option.{Option, none, some}
-use Rattle.refusal.specs.Answer.{Answer, refused, done}
+use Rattle.refusal.specs.Answer.{refused, done}
 use Rattle.rows.specs.Lists.{every, joined, same_list, member, twice}
-use Rattle.rows.specs.Table.{find, rising}
+use Rattle.rows.specs.Table.{rising}
 use Rattle.codec.specs.Format
 use Rattle.codec.specs.Format.{Bytes}
 use Rattle.map.specs.Record.{RuleBody, light, sign, marking, right_of_way, crossing, other, Rule, Map}

@@ -1,7 +1,6 @@
 -- What the exported runs write, from what the runs leave. Assumes nothing.
 use Prim.Native.Nat.{ℕ}
-use mathlib.Core.Path.{◌≡◌, refl, sym, ap, ◌∙◌}
-use mathlib.Core.Bool.{true, false}
+use mathlib.Core.Path.{◌≡◌, refl, ap, ◌∙◌}
 use mathlib.Core.Option.{Option}
 use mathlib.Core.List.{List, [], ◌∷◌}
 use lib.Ieee.{Float}
@@ -9,13 +8,11 @@ use native.Mathlib.Omega.{arith}
 use Rattle.refusal.specs.declared.Refusal.{Refusal}
 use Rattle.refusal.specs.declared.Refusal.TheVariants.{NoLanes, Unknown, ListedTwice, BadMeasure, BadShape, NoPlace, WrongGroup, WrongLink, OffTheMap, Full, NumbersSpent, BadMap, BadSet, ShortBuffer}
 use Rattle.refusal.specs.Refusal.{refusal_number}
-use Rattle.refusal.specs.Answer.{done}
 use Rattle.codec.specs.Format.{Bytes}
 use Rattle.map.specs.Record.{Map}
 use Rattle.changes.specs.declared.Tally.{Tally}
 use Rattle.files.specs.declared.Written.{Written}
 use Rattle.files.specs.declared.Written.TheVariants as W
-use Rattle.files.specs.Files.{read_map}
 use Rattle.edit.specs.Lent.{Lent}
 use Rattle.run.specs.Run.{Edit}
 use Rattle.call_list.specs.declared.Ran.{Ran}
@@ -25,7 +22,7 @@ use Rattle.call_list.proofs.Steps.{lent}
 use Rattle.runs.specs.Loop.{no_tally}
 use Rattle.runs.specs.Opened.{opened_answer, LeftByRun, OpenedLeft}
 use Rattle.tally_words.specs.Words.{tally_in, tally_words}
-use Rattle.run_export.specs.Written.{written_words, code_of, RunWritten, RunTold, OpenedWritten}
+use Rattle.run_export.specs.Written.{written_words, code_of, RunWritten, OpenedWritten}
 
 pub run_as : (rows : List (Option Edit)) (ws₀ : List ℕ) (cs₀ : List Float) (f₀ : List ℕ) (t₀ u₀ : Tally) (s₀ answers : List ℕ) (a : Ran) (new : Lent) (answers' : List ℕ)
     → t₀ ≡ u₀ → RunLeft rows (lent ws₀ cs₀ f₀ t₀ s₀) answers a new answers' → RunLeft rows (lent ws₀ cs₀ f₀ u₀ s₀) answers a new answers'

@@ -1,15 +1,15 @@
 -- The running fold against a map: entry by entry, list by list, and the whole.
 use mathlib.Core.Path.{◌≡◌, refl, sym, ap, ◌∙◌}
-use mathlib.Core.Bool.{Bool, true, false, not, ◌&&◌, cond}
+use mathlib.Core.Bool.{Bool, true, false, not, ◌&&◌}
 use mathlib.Core.List.{List, [], ◌∷◌}
 use Prim.Native.Nat.{ℕ, zero, suc, ◌+◌, ◌-◌, ◌*◌, ◌≤◌, ◌<◌}
 use native.Mathlib.Omega.{arith}
 use lib.Dec.{eqb, ltb}
 use lib.Ieee.{Float}
 use lib.ListN.{length, get_or}
-use borrow.Author.Tests.{lt-ltb, le-ltb, eq-eqb, ne_eqb, eqb-true, not-true, not-false}
+use borrow.Author.Tests.{lt-ltb, le-ltb, eq-eqb, ne_eqb, not-true, not-false}
 use Rattle.rows.specs.Lists.{every, no_entries}
-use Rattle.rows.proofs.Bools.{parts, and_i, and_no, agree}
+use Rattle.rows.proofs.Bools.{parts, and_i, agree}
 use Rattle.rows.proofs.Tables.{every_if}
 use Rattle.store.specs.Layout.{next_of}
 use Rattle.map.specs.Record.{Map}
@@ -17,14 +17,13 @@ use Rattle.map.specs.Entity.{EntityRef, entity, has}
 use Rattle.map.specs.Access.{HasRead}
 use Rattle.map.specs.Tables.{map_of}
 use Rattle.changes.specs.declared.Tally.{Tally}
-use Rattle.changes.specs.ChangeSet.{Warning, ChangeSet, tally_of}
-use Rattle.changes.specs.ChangeFile.{lists_ok}
-use Rattle.changes.specs.Running.{State, same_tally, all_below, fold_ok}
+use Rattle.changes.specs.ChangeSet.{ChangeSet, tally_of}
+use Rattle.changes.specs.Running.{same_tally, all_below, fold_ok}
 use Rattle.changes.specs.Layout.{from_of, set_words, count_in, ref_at, refs_at, warnings_at, list_in, change_set_of, lists_ok_in}
 use Rattle.sets.specs.Tables.{Roomy}
 use Rattle.sets.proofs.SettleLaws.{length_in}
 use Rattle.sets.proofs.TableLaws.{ok_size_of, fits_ok}
-use Rattle.running.specs.Tested.{stands, EntryTested, ListTested, state_of, FoldTested}
+use Rattle.running.specs.Tested.{stands, EntryTested, ListTested, FoldTested}
 
 -- ---- one entry
 module _ (ws : List ℕ) (there : Bool) (k x n : ℕ) (h : n ≡ next_of ws) where

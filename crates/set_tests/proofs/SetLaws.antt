@@ -5,20 +5,19 @@ use mathlib.Core.Option.{Option, none, some}
 use mathlib.Core.List.{List, [], ◌∷◌}
 use Prim.Native.Nat.{ℕ, zero, suc, ◌+◌, ◌-◌, ◌*◌, ◌^◌, ◌≤◌, ◌<◌}
 use native.Mathlib.Omega.{arith}
-use lib.Dec.{ltb, leb, eqb}
+use lib.Dec.{ltb, eqb}
 use lib.ListN.{length, get_or}
-use borrow.Author.Tests.{lt-ltb, le-leb, leb-true, ltb-true, eqb-true, eq-eqb}
+use borrow.Author.Tests.{lt-ltb, le-leb, leb-true, ltb-true, eq-eqb}
 use Rattle.rows.specs.Lists.{every}
 use Rattle.rows.proofs.Bools.{parts, and_i, and_no, clash, agree}
-use Rattle.codec.specs.Format.{◌⊗◌, only, via, tagged, nothing}
-use Rattle.codec.specs.Number.{number}
-use Rattle.codec.specs.Items.{below, list}
+use Rattle.codec.specs.Format.{◌⊗◌, only, via, tagged}
+use Rattle.codec.specs.Items.{below}
 use Rattle.codec.proofs.Fits.{list_each, list_few, list_fits}
 use Rattle.map.specs.Entity.{EntityRef, entity}
 use Rattle.changes.specs.ChangeSet.{Warning, warning, ChangeSet}
 use Rattle.changes.specs.ChangeFile.{max_warnings, kinds, about, warning_form, warnings, entries, change_file, is_set, lists_ok, lists_apart}
 use Rattle.changes.specs.Layout.{from_of, set_words, count_in, about_of, warning_at, warnings_at, change_set_of, lists_ok_in, is_set_in}
-use Rattle.changes.proofs.Entries.{Warned, one_warned, bare_warned, set_fits}
+use Rattle.changes.proofs.Entries.{Warned, one_warned, bare_warned}
 use Rattle.sets.proofs.TableLaws.{ok_size_of, ok_lists}
 
 not_true_false : (b : Bool) → (b ≡ true → ⊥) → b ≡ false

@@ -1,30 +1,27 @@
 -- Entries, warnings and their lists, read into a table.
 use Prim.Native.Nat.{ℕ, zero, suc, ◌+◌, ◌-◌, ◌*◌, ◌≤◌, ◌<◌}
-use mathlib.Core.Path.{◌≡◌, refl, sym, ap, ◌∙◌}
+use mathlib.Core.Path.{◌≡◌, refl, ◌∙◌}
 use mathlib.Core.Logic.{◌⊎◌, inl, inr, ⊎_elim}
 use mathlib.Core.Bool.{Bool, true, false, ◌&&◌, cond}
-use mathlib.Core.Option.{Option, none, some}
+use mathlib.Core.Option.{none}
 use mathlib.Core.List.{List, [], ◌∷◌}
 use native.Mathlib.Omega.{arith}
 use native.Mathlib.Nat.{suc-mul, mul-le-mul_right}
 use lib.Dec.{ltb, leb}
 use lib.ListN.{length, get_or, drop}
-use borrow.Author.Tests.{lt-ltb, le-ltb, lt-leb, le-leb}
+use borrow.Author.Tests.{lt-ltb, le-ltb, le-leb}
 use Rattle.rows.specs.Lists.{list_to}
-use Rattle.rows.proofs.Indexed.{list_to_same}
-use Rattle.codec.specs.Format.{Bytes, Read, fault, got, and_then, Format, ◌⊗◌, via, only, tagged, nothing, no_got, same_value}
+use Rattle.codec.specs.Format.{Bytes, Read, fault, got, and_then, Format, ◌⊗◌, only, tagged, nothing}
 use Rattle.codec.specs.Number.{number, split}
 use Rattle.codec.specs.Items.{below, list}
-use Rattle.map.specs.Entity.{EntityRef}
-use Rattle.changes.specs.ChangeSet.{Warning, warning}
-use Rattle.changes.specs.ChangeFile.{max_entries, max_warnings, kinds, entry, About, abouts, about, warning_form, warnings}
-use Rattle.changes.specs.Layout.{set_words, from_of, count_in, ref_at, refs_at, about_of, warning_at, warnings_at, list_in}
+use Rattle.changes.specs.ChangeFile.{kinds, entry, abouts, about, warning_form, warnings}
+use Rattle.changes.specs.Layout.{set_words, count_in, ref_at, about_of, warning_at, list_in}
 use Rattle.changes.proofs.WrittenLaws.{refs_same}
 use Rattle.fields.specs.Fields.{read_at, got_at, Changed, range, largest, Word}
 use Rattle.fields.specs.declared.Place.{Place}
 use Rattle.fields.specs.declared.Place.TheVariants as P
 use Rattle.fields.proofs.Places.{unchanged, changed_both, place_then, place_via, place_tagged, range_any, range_below, onto, Listed, listed_starts, listed-all, listed_more, listed_ends}
-use Rattle.setfile.specs.SetFile.{ItemRead, ListRead, loose_set, lists_in, SetLoaded}
+use Rattle.setfile.specs.SetFile.{ItemRead, ListRead, SetLoaded}
 use Rattle.setfile.proofs.SetLaws.{refs_list, warnings_list}
 
 -- ---- an entry, a warning

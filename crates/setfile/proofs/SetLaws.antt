@@ -1,23 +1,20 @@
 -- Entries, warnings and their lists, written from a table.
 use Prim.Native.Nat.{ℕ, zero, suc, ◌+◌, ◌-◌, ◌*◌, ◌≤◌, ◌<◌}
-use mathlib.Core.Path.{◌≡◌, refl, sym, ap, ◌∙◌}
-use mathlib.Core.List.{List, [], ◌∷◌, ◌++◌, append_assoc, append-nil}
+use mathlib.Core.Path.{◌≡◌, refl, sym, ◌∙◌}
+use mathlib.Core.List.{List, [], ◌∷◌, ◌++◌, append-nil}
 use native.Mathlib.Omega.{arith}
 use native.Mathlib.Nat.{mul-le-mul_right}
 use lib.ListN.{length, get_or}
 use Rattle.rows.specs.Lists.{list_to}
 use Rattle.rows.proofs.Indexed.{tab, list_to_tab}
-use Rattle.codec.specs.Format.{Bytes, Format, ◌⊗◌, via, only, tagged, nothing}
+use Rattle.codec.specs.Format.{Bytes, ◌⊗◌, via, only, tagged, nothing}
 use Rattle.codec.specs.Number.{number}
-use Rattle.codec.specs.Items.{below, list}
-use Rattle.map.specs.Entity.{EntityRef}
-use Rattle.changes.specs.ChangeSet.{Warning}
+use Rattle.codec.specs.Items.{below}
 use Rattle.changes.specs.ChangeFile.{max_entries, max_warnings, kinds, entry, about, warning_form, entries, warnings, change_file}
 use Rattle.changes.specs.Layout.{set_words, count_in, ref_at, refs_at, warning_at, warnings_at, list_in, change_set_of}
 use Rattle.fields.specs.declared.Place.{Place}
 use Rattle.putting.specs.Putting.{PutAt}
 use Rattle.putting.proofs.PutLaws.{put_then, Items, items_start, items_more, list_put}
-use Rattle.sets.specs.Tables.{Roomy}
 use Rattle.setfile.specs.SetFile.{Counted}
 
 -- ---- lists by index

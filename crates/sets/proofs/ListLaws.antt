@@ -10,8 +10,8 @@ use Rattle.rows.proofs.Bools.{and_r}
 use Rattle.map.specs.Entity.{EntityRef, listed}
 use Rattle.changes.specs.ChangeFile.{rising_refs}
 use Rattle.changes.specs.ChangeSet.{sort_refs, without}
-use Rattle.changes.specs.Walk.{refs_to, Walks, written, Put}
-use Rattle.changes.proofs.Refs.{listed_keep, listed_sort, keep_rising, keep_count}
+use Rattle.changes.specs.Walk.{refs_to, Put}
+use Rattle.changes.proofs.Refs.{listed_keep, listed_sort, keep_rising}
 use Rattle.changes.proofs.WalkLaws.{keep_same}
 use Rattle.changes.proofs.EntryLaws.{length_refs}
 use Rattle.changes.proofs.WrittenLaws.{length-written, to_written, to_before, to_past}

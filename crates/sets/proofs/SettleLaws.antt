@@ -1,21 +1,18 @@
 -- Three lists united, and settled: each call's need, and what the last one leaves.
-use mathlib.Core.Path.{◌≡◌, refl, sym, ap, ap₂, ◌∙◌}
-use mathlib.Core.Bool.{Bool, true, false}
+use mathlib.Core.Path.{◌≡◌, sym, ap, ap₂, ◌∙◌}
 use mathlib.Core.List.{List, [], ◌∷◌, ◌++◌}
-use Prim.Native.Nat.{ℕ, suc, ◌+◌, ◌-◌, ◌*◌, ◌≤◌, ◌<◌, Ordering}
+use Prim.Native.Nat.{ℕ, ◌+◌, ◌-◌, ◌*◌, ◌≤◌, ◌<◌}
 use native.Mathlib.Omega.{arith}
 use lib.ListN.{length, get_or, set, length-append}
-use Rattle.rows.specs.Lists.{by_order}
-use Rattle.map.specs.Entity.{EntityRef, compare_refs}
-use Rattle.changes.specs.ChangeFile.{max_entries, rising_refs}
-use Rattle.changes.specs.ChangeSet.{insert_ref, sort_refs, without}
+use Rattle.changes.specs.ChangeFile.{max_entries}
+use Rattle.changes.specs.ChangeSet.{sort_refs, without}
 use Rattle.changes.specs.Layout.{set_words, from_of, count_in, list_in, refs_at}
-use Rattle.changes.specs.Walk.{refs_to, Walks, written, Put}
-use Rattle.changes.proofs.Refs.{sort_rising, length_sort, length_without}
+use Rattle.changes.specs.Walk.{refs_to, Walks, Put}
+use Rattle.changes.proofs.Refs.{length_sort, length_without}
 use Rattle.changes.proofs.EntryLaws.{refs_at_lem, length_refs}
 use Rattle.sets.specs.declared.Counts.{Counts}
-use Rattle.sets.specs.Tables.{Roomy, put_list, Fits, created_in, modified_in, deleted_in, Joins, United, Rises, Settled}
-use Rattle.sets.proofs.ListLaws.{without_rises, without_again, length_to_lem, put_size, put_list_lem, put_before, put_past}
+use Rattle.sets.specs.Tables.{put_list, Fits, created_in, modified_in, deleted_in, Joins, United, Rises, Settled}
+use Rattle.sets.proofs.ListLaws.{without_rises, without_again, length_to_lem, put_size, put_list_lem, put_before}
 
 -- ---- a list written into a table
 pub list_put : (f t : List ℕ) (l e n r : ℕ) (f' : List ℕ) → Put f (from_of l) (refs_to t e n) r f' → set f' l n ≡ put_list f l (refs_to t e n)

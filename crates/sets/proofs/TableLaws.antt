@@ -1,30 +1,30 @@
 -- Tables of change sets: what writing a list leaves, which tables fit, and the fold from its lists.
-use mathlib.Core.Path.{◌≡◌, refl, sym, ap, ap₂, ◌∙◌, subst}
-use mathlib.Core.Bool.{Bool, true, false, not, ◌&&◌, cond}
+use mathlib.Core.Path.{◌≡◌, refl, sym, ap, ap₂, ◌∙◌}
+use mathlib.Core.Bool.{Bool, true, false, not, ◌&&◌}
 use mathlib.Core.List.{List, [], ◌∷◌, ◌++◌}
 use Prim.Native.Nat.{ℕ, zero, suc, ◌+◌, ◌-◌, ◌*◌, ◌≤◌, ◌<◌}
 use native.Mathlib.Omega.{arith}
-use lib.Dec.{eqb, leb}
+use lib.Dec.{leb}
 use lib.ListN.{length, get_or, set, length-set}
 use lib.Seq.{get_or-set_same, get_or-set_other}
 use borrow.Author.Tests.{eq-eqb, ne_eqb, eqb-true, le-leb, lt-leb}
-use Rattle.rows.proofs.Bools.{parts, and_i, and_l, and_r, and_no, clash}
-use Rattle.refusal.specs.Answer.{Answer, refused, done, refused_as, refuse_when, ◌>>◌}
+use Rattle.rows.proofs.Bools.{parts, and_i, and_l, and_no, clash}
+use Rattle.refusal.specs.Answer.{done, ◌>>◌}
 use Rattle.refusal.specs.declared.Refusal.TheVariants.{Full, BadSet}
 use Rattle.map.specs.Entity.{EntityRef}
 use Rattle.changes.specs.ChangeFile.{max_entries, rising_refs, entries, apart, lists_apart, lists_ok}
-use Rattle.changes.specs.ChangeSet.{Warning, ChangeSet, sort_refs, without, normalize, fold_step}
+use Rattle.changes.specs.ChangeSet.{ChangeSet, without, normalize, fold_step}
 use Rattle.changes.specs.Running.{fold_fits, fold_call}
 use Rattle.changes.specs.Layout.{list_words, from_of, set_words, count_in, refs_at, warnings_at, list_in, change_set_of, lists_ok_in, fold_tables}
 use Rattle.changes.specs.Walk.{refs_to, Walks, written}
 use Rattle.changes.proofs.Refs.{sort_rising}
-use Rattle.changes.proofs.EntryLaws.{length_refs, entries_few, entries_rise}
+use Rattle.changes.proofs.EntryLaws.{entries_few, entries_rise}
 use Rattle.changes.proofs.WrittenLaws.{length-written, word_before, word_past, refs_same, warnings_same, refs_written}
 use Rattle.sets.specs.declared.Counts.{Counts}
 use Rattle.sets.specs.declared.Folded.{Folded}
 use Rattle.sets.specs.declared.Folded.TheVariants.{Done, Refused}
-use Rattle.sets.specs.Tables.{Roomy, crowd_of, put_list, put_lists, Fits, created_in, modified_in, deleted_in, Joins, United, Rises, Settled, Made, Stores}
-use Rattle.sets.specs.Fold.{folded_as, is_refused, fold_fitted, FoldsTo, FoldCalled}
+use Rattle.sets.specs.Tables.{crowd_of, put_list, put_lists, Fits, created_in, modified_in, deleted_in, Joins, United, Rises, Settled, Made}
+use Rattle.sets.specs.Fold.{fold_fitted, FoldsTo, FoldCalled}
 use Rattle.sets.proofs.ListLaws.{without_sorted, length_to_lem}
 use Rattle.sets.proofs.SettleLaws.{length_in, few, walks, walked}
 

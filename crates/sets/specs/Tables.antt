@@ -4,7 +4,7 @@ use Rattle.map.specs.Entity.{EntityRef}
 use Rattle.changes.specs.ChangeSet.{ChangeSet, sort_refs, without}
 use Rattle.changes.specs.ChangeFile.{max_entries, rising_refs}
 use Rattle.changes.specs.Layout.{set_words, from_of, count_in, list_in}
-use Rattle.changes.specs.Walk.{refs_to, Walks, written}
+use Rattle.changes.specs.Walk.{refs_to, written}
 use Rattle.sets.specs.declared.Counts.{Counts}
 
 -- a table whose counts are within their lists' room

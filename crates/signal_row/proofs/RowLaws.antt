@@ -1,9 +1,8 @@
 -- A new signal's lamps: where the standard ones stand, and what is stored.
 use Prim.Native.Nat.{ℕ, zero, suc, ◌+◌, ◌*◌, ◌/◌, ◌%◌, ◌≤◌, ◌<◌}
 use native.Mathlib.Omega.{arith}
-use mathlib.Core.Path.{◌≡◌, refl, sym, ap, ◌∙◌}
-use mathlib.Core.Bool.{Bool, true, false, not, cond}
-use mathlib.Core.Option.{Option, none, some}
+use mathlib.Core.Path.{◌≡◌, sym, ap, ◌∙◌}
+use mathlib.Core.Bool.{true, false}
 use mathlib.Core.List.{List, [], ◌∷◌, map}
 use lib.Ieee.{Float, nan, binary64, div, of_bits}
 use lib.ListN.{length, get_or, get_or-eq_default, length-map}
@@ -21,8 +20,6 @@ use Rattle.map.specs.declared.SignalKind.{SignalKind}
 use Rattle.map.specs.declared.SignalKind.TheVariants.{Vehicle, Pedestrian}
 use Rattle.map.specs.declared.BulbColor.{BulbColor}
 use Rattle.map.specs.declared.BulbColor.TheVariants.{Red, Yellow, Green}
-use Rattle.map.specs.declared.BulbArrow.TheVariants.{NoArrow}
-use Rattle.map.specs.Record.{Bulb, bulb_color_number, bulb_arrow_number}
 use Rattle.signal_row.specs.declared.Bulbs.{Bulbs}
 use Rattle.edit.specs.declared.Height.{Height}
 use Rattle.edit.specs.declared.Height.TheVariants as h

@@ -1,20 +1,16 @@
 -- What is stored of a new signal: its row, and whether its lamps are on the map.
 use Prim.Native.Nat.{ℕ, zero, suc, ◌+◌, ◌-◌, ◌*◌, ◌≤◌, ◌<◌}
-use mathlib.Core.Path.{◌≡◌, refl, sym, ap, ap₂, ◌∙◌}
-use mathlib.Core.Bool.{Bool, true, false, not, ◌&&◌, cond}
-use mathlib.Core.Option.{Option, none, some}
+use mathlib.Core.Path.{◌≡◌, refl, sym, ap, ◌∙◌}
+use mathlib.Core.Bool.{Bool, true, false, not, ◌&&◌}
 use mathlib.Core.List.{List, [], ◌∷◌, map}
 use native.Mathlib.Omega.{arith}
-use lib.Dec.{eqb}
-use lib.Ieee.{Float, nan}
+use lib.Ieee.{Float}
 use lib.ListN.{length, get_or, length-map}
 use borrow.Author.Tests.{not-true, not-false}
 use Rattle.rows.specs.Lists.{or_default, list_to, every}
 use Rattle.rows.proofs.Indexed.{tab, list_to_tab, length-list_to, list_to_same, tab_step, tab_none}
-use Rattle.geometry.specs.declared.Point3.{Point3}
-use Rattle.geometry.specs.Point.{at3, point_on_map}
-use Rattle.geometry.specs.Polyline.{polyline_of}
-use Rattle.map.specs.Record.{Bulb, signal_kind_number, bulb_color_number, bulb_arrow_number}
+use Rattle.geometry.specs.Point.{point_on_map}
+use Rattle.map.specs.Record.{Bulb, signal_kind_number}
 use Rattle.map.specs.Tables.{flag_at, point_from}
 use Rattle.map.specs.Updates.{signal_of_parts}
 use Rattle.signal_row.specs.declared.Bulbs.{Bulbs}
@@ -23,8 +19,7 @@ use Rattle.edit.specs.declared.SignalRequest.{SignalRequest}
 use Rattle.edit.specs.Light.{default_height, stored_bulb, positions, height_of, new_signal}
 use Rattle.edit.specs.Request.{height_given, new_traffic_signal}
 use Rattle.signal_row.specs.declared.BulbNumbers.{BulbNumbers}
-use Rattle.signal_row.specs.declared.SignalRow.{SignalRow}
-use Rattle.signal_row.specs.Row.{no_bulb, stored_bulbs, BulbsRead, BulbWords, RowMade, bulbs_on_map}
+use Rattle.signal_row.specs.Row.{no_bulb, stored_bulbs, BulbWords, RowMade, bulbs_on_map}
 
 -- ---- lists by index
 

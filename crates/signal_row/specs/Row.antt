@@ -1,6 +1,5 @@
 -- What a new signal's lamps and its row stand for.
 use Rattle.std.specs.Prelude.{ℕ, ◌≤◌, ◌<◌, ◌≡◌, Bool, false, List, [], ◌∷◌, map, Float, length, get_or}
-use Rattle.std.proofs.Math.Option.{Option, none, some}
 use Rattle.rows.specs.Lists.{or_default, list_to, every}
 use Rattle.geometry.specs.declared.Point3.{Point3}
 use Rattle.geometry.specs.Double.{◌⊕◌, ◌⊘◌, whole, half}
@@ -10,7 +9,7 @@ use Rattle.map.specs.declared.SignalKind.{SignalKind}
 use Rattle.map.specs.declared.BulbColor.{BulbColor}
 use Rattle.map.specs.declared.BulbColor.TheVariants.{Red}
 use Rattle.map.specs.declared.BulbArrow.TheVariants.{NoArrow}
-use Rattle.map.specs.Record.{Bulb, Signal, signal_kind_number, bulb_color_number, bulb_arrow_number}
+use Rattle.map.specs.Record.{Bulb, bulb_color_number, bulb_arrow_number}
 use Rattle.map.specs.Updates.{signal_of_parts}
 use Rattle.edit.specs.declared.Look.{Look}
 use Rattle.edit.specs.declared.SignalBulb.{SignalBulb}

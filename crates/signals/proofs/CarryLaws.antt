@@ -32,7 +32,7 @@ use Rattle.placing.specs.Answers.{checked}
 use Rattle.edit.specs.declared.Called.{Called}
 use Rattle.edit.specs.declared.Called.TheVariants as c
 use Rattle.edit.specs.declared.SignalRequest.{SignalRequest}
-use Rattle.edit.specs.Edit.{Draft, call}
+use Rattle.edit.specs.Edit.{Draft}
 use Rattle.edit.specs.Lent.{Lent, CallLeft}
 use Rattle.edit.specs.Light.{NewTrafficSignal, new_signal, light_edit, add_traffic_signal}
 use Rattle.edit.specs.Request.{new_traffic_signal}

@@ -30,7 +30,6 @@ use Rattle.place.specs.declared.MaybeEnds.{MaybeEnds}
 use Rattle.place.proofs.LineLaws.{line_part_lem}
 use Rattle.place.proofs.Sound.{readable}
 use Rattle.edit.specs.declared.SignalRequest.{SignalRequest}
-use Rattle.edit.specs.Edit.{call}
 use Rattle.edit.specs.Light.{NewTrafficSignal, Planned, Lift, kept, eased, gone, lift, eased_ref, gone_ref, line_drawn, new_signal, light_draft}
 use Rattle.edit.specs.Request.{new_traffic_signal}
 use Rattle.finishing.proofs.FreshLaws.{Below, New, FoldBelow, below_all, new_all, fresh_fits}

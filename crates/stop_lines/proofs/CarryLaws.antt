@@ -1,36 +1,34 @@
 -- A plan carried out, and the whole call. Assumes nothing.
 use Prim.Native.Nat.{ℕ, suc, ◌+◌, ◌*◌, ◌^◌, ◌≤◌, ◌<◌, max}
 use mathlib.Core.Path.{◌≡◌, refl, sym, ap, ◌∙◌}
-use mathlib.Core.Bool.{Bool, true, false, ◌&&◌, cond}
+use mathlib.Core.Bool.{Bool, true, ◌&&◌}
 use mathlib.Core.List.{List, [], ◌∷◌}
 use native.Mathlib.Omega.{arith}
 use lib.Dec.{leb}
 use lib.Ieee.{Float}
 use lib.ListN.{length, get_or, take}
 use borrow.Author.Tests.{leb-false}
-use Rattle.refusal.specs.Answer.{Answer, refused, done, refused_as, ◌>>=◌, ◌>>◌}
+use Rattle.refusal.specs.Answer.{done, ◌>>=◌, ◌>>◌}
 use Rattle.refusal.specs.declared.Refusal.{Refusal}
-use Rattle.store.specs.Layout.{Sized, SizedWords, count_of, next_of}
+use Rattle.store.specs.Layout.{count_of, next_of}
 use Rattle.row_tests.specs.Flat.{all_points}
-use Rattle.geometry.specs.Polyline.{Polyline, polyline_of}
+use Rattle.geometry.specs.Polyline.{polyline_of}
 use Rattle.polyline.proofs.Lines.{length-points}
-use Rattle.centerline.specs.Line.{points_of}
-use Rattle.map.specs.Record.{Map}
 use Rattle.map.specs.Ceilings.{within_ceilings}
 use Rattle.map.specs.Rows.{fresh, with_line}
-use Rattle.map.specs.Tables.{map_of, is_map_tables}
+use Rattle.map.specs.Tables.{map_of}
 use Rattle.changes.specs.declared.Tally.{Tally}
 use Rattle.changes.specs.ChangeSet.{ChangeSet, tally_of, normalize, fold_step}
 use Rattle.changes.specs.Layout.{change_set_of}
 use Rattle.changes.specs.Running.{fold_fits}
 use Rattle.place.specs.Place.{Placed}
 use Rattle.place.specs.declared.MaybeEnds.{MaybeEnds}
-use Rattle.place.specs.Values.{Roomy, maybe_ends}
+use Rattle.place.specs.Values.{maybe_ends}
 use Rattle.place.proofs.LineLaws.{line_part_lem}
 use Rattle.placing.specs.declared.Checked.{Checked}
 use Rattle.placing.specs.declared.Checked.TheVariants as k
 use Rattle.placing.specs.declared.PlacedLine.{PlacedLine}
-use Rattle.placing.specs.Answers.{checked, placedAnswer}
+use Rattle.placing.specs.Answers.{checked}
 use Rattle.edit.specs.declared.Called.{Called}
 use Rattle.edit.specs.declared.Called.TheVariants as c
 use Rattle.edit.specs.declared.StopRule.{StopRule}
@@ -40,7 +38,7 @@ use Rattle.edit.specs.StopLine.{NewStopLine, rule_at, stop_line_edit, add_stop_l
 use Rattle.finishing.specs.Finish.{lent_checks, planned, CallEnds, TakenIn}
 use Rattle.finishing.proofs.CallLaws.{LentFine, lent_fine, lent_refused, plan_refused, call_refused, plan_within}
 use Rattle.finishing.proofs.EndLaws.{ends_refused, not_late, takes, ends_done}
-use Rattle.stop_lines.specs.Stop.{new_stop_line, placed_draft, rule_room, room_for, clamped_by, line_changes, SetDrafted, LineSettles, next_after, ruled, LinePlanned}
+use Rattle.stop_lines.specs.Stop.{placed_draft, clamped_by, line_changes, SetDrafted, LineSettles, next_after, ruled, LinePlanned}
 use Rattle.stop_lines.proofs.RoomLaws.{within_room, HasRoom, has_room}
 use Rattle.stop_lines.proofs.DraftLaws.{draft_changes, draft_next, draft_map, draft_id, draft_ends, exact, fits_alike}
 

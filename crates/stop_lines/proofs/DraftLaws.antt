@@ -1,12 +1,11 @@
 -- The change set that is built, and that it is the draft's. Assumes nothing.
 use Prim.Native.Nat.{ℕ, suc, ◌+◌, ◌^◌, ◌≤◌, ◌<◌, max}
 use mathlib.Core.Path.{◌≡◌, refl, sym, ap, ◌∙◌}
-use mathlib.Core.Bool.{Bool, true, false, ◌&&◌, cond}
-use mathlib.Core.Option.{Option, none, some}
+use mathlib.Core.Bool.{Bool, true, false, ◌&&◌}
+use mathlib.Core.Option.{none}
 use mathlib.Core.List.{List, [], ◌∷◌, ◌++◌}
 use native.Mathlib.Omega.{arith}
 use lib.Dec.{leb}
-use lib.ListN.{length}
 use borrow.Author.Tests.{le-leb, leb-true}
 use Rattle.rows.specs.Lists.{every}
 use Rattle.rows.proofs.Bools.{agree, and_i}
@@ -14,20 +13,19 @@ use Rattle.map.specs.Entity.{EntityRef, entity, compare_refs, listed}
 use Rattle.map.specs.Record.{Map}
 use Rattle.map.specs.Rows.{fresh, with_line}
 use Rattle.changes.specs.ChangeFile.{max_entries, max_warnings, is_before, rise_after, rising_refs}
-use Rattle.changes.specs.ChangeSet.{ChangeSet, Warning, warning, no_changes, normalize, fold_step}
+use Rattle.changes.specs.ChangeSet.{ChangeSet, Warning, normalize, fold_step}
 use Rattle.changes.specs.Layout.{count_in, change_set_of}
 use Rattle.changes.specs.Running.{fold_fits}
-use Rattle.sets.specs.Tables.{Roomy}
-use Rattle.building.specs.Build.{Cleared, EntryAdded, WarningAdded, with_entry, with_warning}
+use Rattle.building.specs.Build.{Cleared, EntryAdded, WarningAdded}
 use Rattle.place.specs.Place.{Placed}
 use Rattle.edit.specs.declared.StopRule.{StopRule}
 use Rattle.edit.specs.declared.StopRule.TheVariants.{StopSign, Marking, NoRule}
 use Rattle.edit.specs.StopLine.{rule_at, line_draft}
 use Rattle.placing.specs.declared.Checked.{Checked}
 use Rattle.placing.specs.declared.Checked.TheVariants.{Fine}
-use Rattle.finishing.specs.Finish.{RoomyAll, Few, FoldRoom, Settles}
+use Rattle.finishing.specs.Finish.{Few, FoldRoom, Settles}
 use Rattle.finishing.proofs.EndLaws.{room_settles}
-use Rattle.finishing.proofs.FreshLaws.{Below, New, new_all, FoldBelow, fresh_fits}
+use Rattle.finishing.proofs.FreshLaws.{New, new_all, FoldBelow, fresh_fits}
 use Rattle.stop_lines.specs.Stop.{placed_draft, clamped_by, line_changes, Following, Holds, SetDrafted, LineSettles, next_after, ruled}
 
 -- ---- numbers

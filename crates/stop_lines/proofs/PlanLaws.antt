@@ -1,7 +1,7 @@
 -- The plan of a stop line: each refusal, and the draft. Assumes nothing.
 use Prim.Native.Nat.{ℕ, ◌+◌, ◌*◌, ◌%◌, ◌≤◌, ◌<◌}
 use mathlib.Core.Path.{◌≡◌, refl, sym, ap, ◌∙◌}
-use mathlib.Core.Bool.{Bool, true, false, not, ◌&&◌, cond}
+use mathlib.Core.Bool.{Bool, true, false, not, ◌&&◌}
 use mathlib.Core.List.{List, [], ◌∷◌}
 use native.Mathlib.Omega.{arith}
 use lib.Ieee.{Float}
@@ -15,12 +15,10 @@ use Rattle.refusal.specs.declared.Refusal.TheVariants.{OffTheMap, Full}
 use Rattle.store.specs.Layout.{count_of}
 use Rattle.row_tests.specs.Flat.{all_points}
 use Rattle.geometry.specs.Point.{point_on_map}
-use Rattle.geometry.specs.Polyline.{Polyline, point_in, polyline_of}
+use Rattle.geometry.specs.Polyline.{point_in, polyline_of}
 use Rattle.centerline.specs.declared.Line.{Line}
 use Rattle.centerline.specs.Line.{points_of}
 use Rattle.map.specs.Record.{Map}
-use Rattle.map.specs.Ceilings.{within_ceilings}
-use Rattle.map.specs.MapFile.{is_map}
 use Rattle.map.specs.Entity.{entity}
 use Rattle.map.specs.Rows.{fresh, with_line}
 use Rattle.map.specs.Tables.{map_of, is_map_tables}

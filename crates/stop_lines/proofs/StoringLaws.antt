@@ -1,19 +1,17 @@
 -- The line and its rule stored. Assumes nothing.
 use Prim.Native.Nat.{ℕ, suc, ◌+◌, ◌-◌, ◌^◌, ◌≤◌, ◌<◌, max}
 use mathlib.Core.Path.{◌≡◌, refl, sym, ap, ◌∙◌}
-use mathlib.Core.Bool.{Bool, true, false, ◌&&◌, cond}
-use mathlib.Core.Option.{Option, none, some}
+use mathlib.Core.Bool.{true, ◌&&◌}
 use mathlib.Core.List.{List, [], ◌∷◌}
 use native.Mathlib.Omega.{arith}
 use lib.Dec.{ltb, leb}
 use lib.Ieee.{Float}
-use lib.ListN.{length}
 use borrow.Author.Tests.{ltb-true, leb-true}
 use Rattle.rows.proofs.Bools.{parts}
-use Rattle.store.specs.Layout.{SizedWords, Sized, count_of, next_of, all_coords}
+use Rattle.store.specs.Layout.{SizedWords, count_of, next_of}
 use Rattle.geometry.specs.Polyline.{polyline_of}
-use Rattle.map.specs.Record.{RuleBody, Map}
-use Rattle.map.specs.Rows.{with_line, with_rule}
+use Rattle.map.specs.Record.{Map}
+use Rattle.map.specs.Rows.{with_line}
 use Rattle.map.specs.Tables.{map_of}
 use Rattle.map.specs.Updates.{new_body, LinePushed, RulePushed}
 use Rattle.edit.specs.declared.StopRule.{StopRule}

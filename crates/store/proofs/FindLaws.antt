@@ -1,16 +1,15 @@
 -- Look-ups and the order of numbers in a table, for all kinds together. Assumes nothing.
-use Prim.Native.Nat.{ℕ, ◌+◌, ◌*◌, ◌≤◌, ◌<◌}
-use mathlib.Core.Path.{◌≡◌, refl, sym, ap, ◌∙◌}
-use mathlib.Core.Bool.{Bool, true, false, cond}
-use mathlib.Core.Option.{Option, none, some}
+use Prim.Native.Nat.{ℕ, ◌+◌, ◌*◌, ◌<◌}
+use mathlib.Core.Path.{◌≡◌, sym, ◌∙◌}
+use mathlib.Core.Bool.{cond}
+use mathlib.Core.Option.{none, some}
 use mathlib.Core.List.{List}
 use native.Mathlib.Nat.{add-zero, zero-add, zero-mul}
-use native.Mathlib.Omega.{arith}
 use lib.Dec.{ltb}
 use lib.Ieee.{Float}
 use lib.ListN.{get_or}
 use Rattle.rows.specs.Table.{find, holds, rising}
-use Rattle.rows.specs.Rows.{cut, numbers_at, index_of}
+use Rattle.rows.specs.Rows.{numbers_at, index_of}
 use Rattle.rows.proofs.RowLaws.{get_or-cut}
 use Rattle.rows.proofs.Indexed.{tab, list_to_tab, tab_equal}
 use Rattle.rows.proofs.Searches.{numbers_tab, find_tab, holds_tab, rising_tab}

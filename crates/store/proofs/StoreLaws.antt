@@ -1,6 +1,6 @@
 -- Each edit changes one table and leaves the others: for all kinds together. Assumes nothing.
 use Prim.Native.Nat.{ℕ, zero, suc, ◌+◌, ◌-◌, ◌*◌, ◌≤◌, ◌<◌}
-use mathlib.Core.Path.{◌≡◌, refl, sym, ap, ◌∙◌, subst}
+use mathlib.Core.Path.{◌≡◌, refl, sym, ◌∙◌, subst}
 use mathlib.Core.Logic.{◌⊎◌, ⊎_elim}
 use mathlib.Core.List.{List, [], ◌∷◌, ◌++◌}
 use native.Mathlib.Nat.{add-zero, mul-le-mul_right, le_refl}
@@ -9,8 +9,7 @@ use lib.Dec.{lit≤}
 use lib.Ieee.{Float}
 use lib.ListN.{length, get_or, set, length-set}
 use lib.Seq.{get_or-set_same, get_or-set_other}
-use Rattle.rows.specs.Lists.{list_to}
-use Rattle.rows.specs.Rows.{cut, pasted, moved, without}
+use Rattle.rows.specs.Rows.{pasted, moved, without}
 use Rattle.rows.proofs.RowLaws.{same_or, get_or_before, get_or_before_moved, cut_set_off, pasted-all, length_cut}
 use Rattle.rows.proofs.Indexed.{length-list_to, list_to_same, list_to_push, list_to-set, list_to_delete}
 use Rattle.rows.proofs.Plan.{Plan, from_first, within, row_inside, part_here, part_other, part_others, part_long, gone_fits, gone_before, gone_past, gone_others, gone_long}

@@ -1,6 +1,6 @@
 -- Six tables over two lists. words: the next number, six counts, then the tables' rows; coords: a row of coordinates for each row of words.
 -- Kinds: 0 lane, 1 boundary, 2 stop line, 3 signal, 4 crosswalk, 5 rule. docs/TABLES.md has what stands in a row.
-use Rattle.std.specs.Prelude.{ℕ, zero, suc, ◌+◌, ◌-◌, ◌*◌, ◌≤◌, ◌<◌, ◌≡◌, List, [], ◌∷◌, Float, length, get_or, set}
+use Rattle.std.specs.Prelude.{ℕ, ◌+◌, ◌-◌, ◌*◌, ◌≤◌, ◌<◌, ◌≡◌, List, [], ◌∷◌, Float, length, get_or, set}
 use Rattle.rows.specs.Lists.{list_to}
 use Rattle.rows.specs.Rows.{cut, pasted, moved}
 

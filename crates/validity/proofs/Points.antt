@@ -1,18 +1,15 @@
 -- What the formats of points, polylines and bulbs ask, as tests of coordinates. Assumes nothing.
 use Prim.Native.Nat.{ℕ, zero, suc, ◌+◌, ◌*◌, ◌^◌, ◌≤◌, ◌<◌}
 use mathlib.Core.Path.{◌≡◌, refl, sym, ap, ◌∙◌}
-use mathlib.Core.Bool.{Bool, true, false, ◌&&◌}
+use mathlib.Core.Bool.{◌&&◌}
 use mathlib.Core.List.{List, [], ◌∷◌}
 use native.Mathlib.Nat.{add_assoc, add-zero, zero-mul}
 use native.Mathlib.Omega.{arith}
 use borrow.Author.Tests.{leb-true}
-use lib.Dec.{T, leb, ltb}
+use lib.Dec.{T, leb}
 use lib.Ieee.{Float, nan, binary64, fits}
 use lib.ListN.{length, get_or}
-use Rattle.geometry.specs.declared.Point3.{Point3}
-use Rattle.geometry.specs.Point.{at3}
-use Rattle.geometry.specs.Polyline.{Polyline}
-use Rattle.rows.specs.Lists.{every, list_to}
+use Rattle.rows.specs.Lists.{every}
 use Rattle.rows.specs.Rows.{cut}
 use Rattle.rows.proofs.RowLaws.{cut_cons, get_or-cut}
 use Rattle.rows.proofs.Indexed.{tab, list_to_tab, list_to_same, length-list_to}
@@ -20,7 +17,7 @@ use Rattle.store.specs.Layout.{limit_of, coord_width_of, coord_place_of, coords_
 use Rattle.store.proofs.StoreLaws.{coords_end}
 use Rattle.codec.specs.Format.{◌⊗◌, via}
 use Rattle.codec.specs.Number.{split}
-use Rattle.map.specs.MapFile.{coordinate, point, polyline}
+use Rattle.map.specs.MapFile.{point, polyline}
 use Rattle.map.specs.Tables.{point_from, line_at}
 use Rattle.row_tests.specs.Flat.{good_coord, good_line}
 use Rattle.validity.proofs.Numbers.{and_true, list_is, three, coordinate_is}

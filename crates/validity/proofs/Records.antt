@@ -1,16 +1,15 @@
 -- A row's tests are its record's format, kind by kind. Assumes nothing.
 use Prim.Native.Nat.{ℕ, zero, suc, ◌+◌, ◌*◌, ◌^◌, ◌≤◌, ◌<◌}
 use mathlib.Core.Path.{◌≡◌, refl, sym, ap, ◌∙◌}
-use mathlib.Core.Bool.{Bool, true, false, not, ◌&&◌, cond}
-use mathlib.Core.Option.{Option, none, some}
+use mathlib.Core.Bool.{true, not, ◌&&◌, cond}
+use mathlib.Core.Option.{none, some}
 use mathlib.Core.List.{List, [], ◌∷◌}
-use native.Mathlib.Nat.{add-zero, zero-add, add_assoc}
+use native.Mathlib.Nat.{add-zero, add_assoc}
 use native.Mathlib.Omega.{arith}
 use borrow.Author.Tests.{leb-true, ltb-true, ltb-false}
 use lib.Dec.{T, leb, ltb, eqb}
 use lib.Ieee.{Float, nan, binary64, fits}
 use lib.ListN.{length, get_or, get_or-eq_default}
-use Rattle.geometry.specs.Double.{is_finite}
 use Rattle.rows.specs.Lists.{every, list_to}
 use Rattle.rows.specs.Rows.{cut}
 use Rattle.rows.proofs.RowLaws.{length_cut}
@@ -19,14 +18,13 @@ use Rattle.store.specs.Layout.{limit_of, width_of, base_of, place_of, coord_widt
 use Rattle.store.proofs.StoreLaws.{row_ends, coords_end}
 use Rattle.codec.specs.Format.{◌⊗◌, via, tagged}
 use Rattle.codec.specs.Number.{number, split}
-use Rattle.codec.specs.Items.{below, from, flag, option, list}
-use Rattle.map.specs.Record.{Lane, LineString, Bulb, Signal, Crosswalk, RuleBody, Rule}
-use Rattle.map.specs.MapFile.{polyline, point, height, boundary_ref, lane, line_string, bulb, signal, crosswalk, numbers, body, rule}
+use Rattle.codec.specs.Items.{from, option, list}
+use Rattle.map.specs.MapFile.{polyline, height, boundary_ref, lane, line_string, bulb, signal, crosswalk, numbers, body, rule}
 use Rattle.map.specs.Tables.{flag_at, list_at, point_from, line_at, lane_in, line_string_in, bulb_at, signal_in, crosswalk_in, body_of, rule_in}
 use Rattle.map.proofs.ReadLaws.{get_or_row}
-use Rattle.row_tests.specs.Flat.{good_coord, good_line, good_lane, good_string, good_bulb, good_bulbs, good_height, good_signal, good_crosswalk, good_body, good_rule, good_row}
+use Rattle.row_tests.specs.Flat.{good_coord, good_line, good_lane, good_string, good_bulb, good_bulbs, good_height, good_signal, good_crosswalk, good_body, good_rule}
 use Rattle.validity.proofs.Numbers.{and_true, turned, every_same, every_true, number_true, below_is, from_is, flag_true, list_is, option_is, cond_true, height_is}
-use Rattle.validity.proofs.Points.{point_is, point_at_lem, coord_word, line_is, three_coords}
+use Rattle.validity.proofs.Points.{point_at_lem, coord_word, line_is, three_coords}
 
 module _ (ws : List ℕ) (small : (j : ℕ) → get_or ws j 0 < 2 ^ 64) (room : length ws ≡ all_words) (cs : List Float) (held : (j : ℕ) → T (fits binary64 (get_or cs j nan))) (long : length cs ≡ all_coords) where
   row_long : (k i : ℕ) → k < 6 → i < limit_of k → length (row_of ws k i) ≡ width_of k

@@ -1,13 +1,13 @@
 -- Sums of points, and passes that count up. Assumes nothing.
 use Prim.Native.Nat.{ℕ, zero, suc, ◌+◌, ◌-◌, ◌*◌, ◌≤◌, ◌<◌}
-use mathlib.Core.Path.{◌≡◌, refl, sym, ap, ◌∙◌}
-use mathlib.Core.Bool.{Bool, true, false, ◌&&◌}
+use mathlib.Core.Path.{◌≡◌, refl, sym, ◌∙◌}
+use mathlib.Core.Bool.{◌&&◌}
 use mathlib.Core.List.{List, [], ◌∷◌, ◌++◌}
 use native.Mathlib.Nat.{add-zero, zero-add, add_assoc, mul-suc}
 use native.Mathlib.Numerals.{add-one}
 use native.Mathlib.Omega.{arith}
-use Rattle.rows.specs.Lists.{every, list_to, total}
-use Rattle.store.specs.Layout.{count_of, limit_of, SizedWords}
+use Rattle.rows.specs.Lists.{list_to, total}
+use Rattle.store.specs.Layout.{count_of, SizedWords}
 use Rattle.store.proofs.StoreLaws.{limit_small}
 use Rattle.row_tests.specs.Flat.{row_points, table_points, all_points, Few}
 

@@ -2,7 +2,7 @@
 use Prim.Native.Nat.{ℕ, zero, suc, ◌+◌, ◌*◌, ◌^◌, ◌≤◌, ◌<◌}
 use mathlib.Core.Path.{◌≡◌, refl, sym, ap, ◌∙◌}
 use mathlib.Core.Bool.{Bool, true, false, not, ◌&&◌, cond}
-use mathlib.Core.Option.{Option, none, some}
+use mathlib.Core.Option.{none, some}
 use mathlib.Core.List.{List, [], ◌∷◌}
 use native.Mathlib.Omega.{arith}
 use native.Mathlib.Nat.{eq-or-lt_of_le}
@@ -15,16 +15,15 @@ use Rattle.rows.specs.Lists.{every, list_to, total}
 use Rattle.rows.specs.Table.{rising}
 use Rattle.rows.specs.Rows.{cut, numbers_at}
 use Rattle.rows.proofs.Indexed.{tab, list_to_tab, length-list_to}
-use Rattle.store.specs.Layout.{limit_of, width_of, base_of, place_of, count_of, next_of, row_of, coords_of, records_of, SizedWords, Sized, all_words, all_coords}
+use Rattle.store.specs.Layout.{limit_of, width_of, base_of, place_of, count_of, next_of, row_of, coords_of, records_of, SizedWords, all_words, all_coords}
 use Rattle.store.proofs.StoreLaws.{length_records}
 use Rattle.store.proofs.FindLaws.{rising_record}
 use Rattle.codec.specs.Format.{Format, ◌⊗◌, via, only, tagged, both}
-use Rattle.codec.specs.Number.{number, split}
-use Rattle.map.specs.Record.{Lane, LineString, Signal, Crosswalk, RuleBody, Rule, Map}
+use Rattle.codec.specs.Number.{split}
 use Rattle.map.specs.Ceilings.{size_of, lane_points, line_string_points, signal_points, crosswalk_points, body_points, rule_points, points, max_points}
 use Rattle.map.specs.MapFile.{lane, line_string, signal, crosswalk, rule, table, tables, map_file, is_map}
 use Rattle.map.specs.Tables.{flag_at, line_at, lane_in, line_string_in, signal_in, crosswalk_in, body_of, rule_in, map_of, is_map_tables}
-use Rattle.map.proofs.SoundLaws.{Sound, sound}
+use Rattle.map.proofs.SoundLaws.{sound}
 use Rattle.map.proofs.ReadLaws.{get_or_row, lane_number, line_number, signal_number, crosswalk_number, rule_number_lem}
 use Rattle.row_tests.specs.Flat as flat
 use Rattle.row_tests.specs.Flat.{good_line, good_lane, good_string, good_signal, good_crosswalk, good_body, good_rule, good_row, good_rows, good_order, good_table, good_tables, good_counts, row_points, table_points, all_points, Few}

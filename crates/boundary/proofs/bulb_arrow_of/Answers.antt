@@ -1,10 +1,8 @@
 -- `boundary::bulb_arrow_of` meets its contract. Assumes nothing.
-use native.Mathlib.Omega.{arith}
 use mathlib.Core.Path.{refl}
 use Rattle.map.specs.declared.BulbArrow.TheVariants.{DownRight}
 use Rattle.boundary.specs.Numbers.{bulb_arrow_of}
 use Rattle.boundary.proofs.Cases.{last_case, further, le_any}
-use borrow.Author.Rules.{rules}
 use Rattle.boundary.proofs.bulb_arrow_of.Goals as goal
 
 pub returns-in_default : goal.returns-in_default

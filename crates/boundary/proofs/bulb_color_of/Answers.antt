@@ -4,7 +4,6 @@ use mathlib.Core.Path.{refl}
 use Rattle.map.specs.declared.BulbColor.TheVariants.{White}
 use Rattle.boundary.specs.Numbers.{bulb_color_of}
 use Rattle.boundary.proofs.Cases.{last_case}
-use borrow.Author.Rules.{rules}
 use Rattle.boundary.proofs.bulb_color_of.Goals as goal
 
 pub returns-in_default : goal.returns-in_default

@@ -4,7 +4,6 @@ use mathlib.Core.Path.{refl}
 use Rattle.edit.specs.declared.StopLineChoice.TheVariants.{NoLine}
 use Rattle.boundary.specs.Numbers.{choice_of}
 use Rattle.boundary.proofs.Cases.{last_case}
-use borrow.Author.Rules.{rules}
 use Rattle.boundary.proofs.choice_of.Goals as goal
 
 pub returns-in-1 : goal.returns-in-1

@@ -1,5 +1,4 @@
 -- `boundary::height_of` meets its contract. Assumes nothing.
-use borrow.Author.Rules.{rules}
 use Rattle.boundary.proofs.height_of.Goals as goal
 
 pub returns-then-given : goal.returns-then-given

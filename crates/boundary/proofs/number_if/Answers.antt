@@ -1,5 +1,4 @@
 -- `boundary::number_if` meets its contract. Assumes nothing.
-use borrow.Author.Rules.{rules}
 use Rattle.boundary.proofs.number_if.Goals as goal
 
 pub returns-then-given : goal.returns-then-given

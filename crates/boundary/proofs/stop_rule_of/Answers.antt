@@ -4,7 +4,6 @@ use mathlib.Core.Path.{refl}
 use Rattle.edit.specs.declared.StopRule.TheVariants.{NoRule}
 use Rattle.boundary.specs.Numbers.{stop_rule_of}
 use Rattle.boundary.proofs.Cases.{last_case}
-use borrow.Author.Rules.{rules}
 use Rattle.boundary.proofs.stop_rule_of.Goals as goal
 
 pub returns-in_default : goal.returns-in_default

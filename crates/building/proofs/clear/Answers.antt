@@ -1,6 +1,5 @@
 -- `building::clear` meets its contract. Assumes nothing.
 use Rattle.building.proofs.BuildLaws as L
-use borrow.Author.Rules.{rules}
 use Rattle.building.proofs.clear.Goals as goal
 
 pub returns : goal.returns

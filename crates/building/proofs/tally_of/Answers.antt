@@ -1,6 +1,5 @@
 -- `building::tally_of` meets its contract. Assumes nothing.
 use Rattle.building.proofs.BuildLaws as L
-use borrow.Author.Rules.{rules}
 use Rattle.building.proofs.tally_of.Goals as goal
 
 pub returns : goal.returns

@@ -1,6 +1,5 @@
 -- `call_list::reply_of` meets its contract. Assumes nothing.
 use Rattle.call_list.proofs.Replies.{done_reply, refused_reply}
-use borrow.Author.Rules.{rules}
 use Rattle.call_list.proofs.reply_of.Goals as goal
 
 pub returns-in-Done : goal.returns-in-Done

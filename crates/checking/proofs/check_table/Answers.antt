@@ -2,10 +2,6 @@ use native.Mathlib.Omega.{arith}
 use Prim.Native.Nat.{◌-◌}
 use borrow.Author.Rules.{rules}
 use Rattle.checking.proofs.CheckLaws as L
-use Rattle.checking.proofs.points.Reads as points-reads
-use Rattle.fields.proofs.read_word.Reads as read-word-reads
-use Rattle.loading.proofs.read_record.Reads as read-record-reads
-use Rattle.store.proofs.layout.limit.Reads as limit-reads
 use Rattle.checking.proofs.check_table.Goals as goal
 
 pub limit-most-requires : goal.limit-most-requires

@@ -1,11 +1,5 @@
-use native.Mathlib.Omega.{arith}
 use Prim.Native.Nat.{◌-◌}
-use borrow.Author.Rules.{rules}
 use Rattle.checking.proofs.CheckLaws as L
-use Rattle.checking.proofs.points.Reads as points-reads
-use Rattle.fields.proofs.read_word.Reads as read-word-reads
-use Rattle.loading.proofs.read_record.Reads as read-record-reads
-use Rattle.store.proofs.layout.limit.Reads as limit-reads
 use Rattle.checking.proofs.check_table.Given as goal
 
 abbrev pub invariant-loop-i : goal.invariant-loop-i

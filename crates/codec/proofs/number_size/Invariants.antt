@@ -1,4 +1,3 @@
-use borrow.Author.Rules.{rules}
 use Rattle.codec.proofs.NumberLaws as L
 use Rattle.codec.proofs.number_size.Given as goal
 

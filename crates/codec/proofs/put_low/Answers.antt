@@ -1,5 +1,4 @@
 use Prim.Native.Nat.{◌-◌}
-use native.Mathlib.Omega.{arith}
 use borrow.Author.Rules.{rules}
 use Rattle.codec.proofs.DoubleLaws as L
 use Rattle.codec.proofs.put_low.Goals as goal

@@ -1,6 +1,5 @@
 use borrow.Author.Rules.{rules}
 use Rattle.codec.proofs.DoubleLaws as L
-use Rattle.codec.proofs.low_at.Reads as low-at-reads
 use Rattle.codec.proofs.read_double.Goals as goal
 
 pub returns-then-s-lt8 : goal.returns-then-s-lt8

@@ -1,6 +1,4 @@
 use Prim.Native.Nat.{◌-◌}
-use native.Mathlib.Omega.{arith}
-use borrow.Author.Rules.{rules}
 use Rattle.codec.proofs.NumberLaws as L
 use Rattle.codec.proofs.read_number.Given as goal
 

@@ -1,6 +1,4 @@
-use borrow.Author.Rules.{rules}
 use Rattle.codec.specs.Double.{double}
-use Rattle.codec.proofs.put_low.Reads as put-low-reads
 use Rattle.codec.proofs.write_double.Goals as goal
 
 pub returns : goal.returns

@@ -1,5 +1,3 @@
-use native.Mathlib.Omega.{arith}
-use borrow.Author.Rules.{rules}
 use Rattle.codec.proofs.NumberLaws as L
 use Rattle.codec.proofs.write_number.Given as goal
 

@@ -1,6 +1,5 @@
 -- `edit_export::lane_map_add_traffic_signal` meets its contract. Assumes nothing.
 use Rattle.edit_export.proofs.Laws.{step_written}
-use borrow.Author.Rules.{rules}
 use Rattle.edit_export.proofs.lane_map_add_traffic_signal.Goals as goal
 
 pub returns : goal.returns

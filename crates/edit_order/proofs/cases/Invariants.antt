@@ -1,5 +1,5 @@
 -- `edit_order::cases` is safe and ends: the text's end comes nearer with each line. Assumes nothing.
-use Rattle.std.proofs.Common.{◌≡◌, ◌-◌, ◌≤◌, length, rules}
+use Rattle.std.proofs.Common.{◌≡◌, ◌-◌, ◌≤◌, length}
 use Rattle.edit_order.proofs.cases.Given as goal
 
 abbrev pub invariant-loop-at : goal.invariant-loop-at

@@ -1,5 +1,5 @@
 -- `edit_order::edit` is safe: what is lent lies within the slices. Assumes nothing.
-use Rattle.std.proofs.Common.{sym, arith, length-take-le, rules}
+use Rattle.std.proofs.Common.{sym, arith, length-take-le}
 use Rattle.edit_order.proofs.edit.Goals as goal
 
 pub slice_bounds-called-end-2 : goal.slice_bounds-called-end-2

@@ -1,5 +1,5 @@
 -- `edit_replay::main` is safe and ends: the arguments left grow fewer. Assumes nothing.
-use Rattle.std.proofs.Common.{◌-◌, rules}
+use Rattle.std.proofs.Common.{◌-◌}
 use Rattle.edit_replay.proofs.main.Given as goal
 
 abbrev pub invariant-loop-i : goal.invariant-loop-i

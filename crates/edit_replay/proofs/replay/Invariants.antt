@@ -1,5 +1,5 @@
 -- `edit_replay::replay` is safe and ends: the lines left grow fewer. Assumes nothing.
-use Rattle.std.proofs.Common.{◌≡◌, length, rules}
+use Rattle.std.proofs.Common.{◌≡◌, length}
 use Rattle.edit_replay.proofs.replay.Given as goal
 
 abbrev pub invariant-loop-left : goal.invariant-loop-left

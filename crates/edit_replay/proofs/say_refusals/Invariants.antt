@@ -1,5 +1,5 @@
 -- `edit_replay::say_refusals` is safe and ends: the counts left grow fewer. Assumes nothing.
-use Rattle.std.proofs.Common.{◌-◌, ◌≤◌, rules}
+use Rattle.std.proofs.Common.{◌-◌, ◌≤◌}
 use Rattle.edit_replay.proofs.say_refusals.Given as goal
 
 abbrev pub invariant-loop-i : goal.invariant-loop-i

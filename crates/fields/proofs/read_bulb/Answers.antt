@@ -1,7 +1,5 @@
 use borrow.Author.Rules.{rules}
 use Rattle.fields.proofs.BulbLaws as L
-use Rattle.fields.proofs.read_point.Reads as read-point-reads
-use Rattle.fields.proofs.read_word.Reads as read-word-reads
 use Rattle.fields.proofs.read_bulb.Goals as goal
 
 pub read_point-position-requires : goal.read_point-position-requires

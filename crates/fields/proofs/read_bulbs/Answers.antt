@@ -1,8 +1,6 @@
 use Prim.Native.Nat.{◌-◌}
 use borrow.Author.Rules.{rules}
 use Rattle.fields.proofs.BulbLaws as L
-use Rattle.fields.proofs.read_bulb.Reads as read-bulb-reads
-use Rattle.fields.proofs.read_word.Reads as read-word-reads
 use Rattle.fields.proofs.read_bulbs.Goals as goal
 
 pub read_word-q-requires : goal.read_word-q-requires

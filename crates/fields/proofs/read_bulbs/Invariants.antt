@@ -1,8 +1,5 @@
 use Prim.Native.Nat.{◌-◌}
-use borrow.Author.Rules.{rules}
 use Rattle.fields.proofs.BulbLaws as L
-use Rattle.fields.proofs.read_bulb.Reads as read-bulb-reads
-use Rattle.fields.proofs.read_word.Reads as read-word-reads
 use Rattle.fields.proofs.read_bulbs.Given as goal
 
 abbrev pub invariant-loop-i : goal.invariant-loop-i

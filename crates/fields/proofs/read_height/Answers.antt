@@ -1,6 +1,5 @@
 use borrow.Author.Rules.{rules}
 use Rattle.fields.proofs.Points as L
-use Rattle.codec.proofs.read_double.Reads as read-double-reads
 use Rattle.fields.proofs.read_height.Goals as goal
 
 pub enum_known-p : goal.enum_known-p

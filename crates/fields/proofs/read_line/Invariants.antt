@@ -1,8 +1,5 @@
 use Prim.Native.Nat.{◌-◌}
-use borrow.Author.Rules.{rules}
 use Rattle.fields.proofs.Points as L
-use Rattle.fields.proofs.read_point.Reads as read-point-reads
-use Rattle.fields.proofs.read_word.Reads as read-word-reads
 use Rattle.fields.proofs.read_line.Given as goal
 
 abbrev pub invariant-loop-i : goal.invariant-loop-i

@@ -1,7 +1,6 @@
 use Prim.Native.Nat.{◌-◌}
 use borrow.Author.Rules.{rules}
 use Rattle.fields.proofs.Words as L
-use Rattle.fields.proofs.read_word.Reads as read-word-reads
 use Rattle.fields.proofs.read_numbers.Goals as goal
 
 pub read_word-q-requires : goal.read_word-q-requires

@@ -1,7 +1,5 @@
 use borrow.Author.Rules.{rules}
 use Rattle.fields.proofs.Options as L
-use Rattle.fields.proofs.read_line.Reads as read-line-reads
-use Rattle.fields.proofs.read_word.Reads as read-word-reads
 use Rattle.fields.proofs.read_option_line.Goals as goal
 
 pub read_word-q-requires : goal.read_word-q-requires

@@ -1,6 +1,5 @@
 use borrow.Author.Rules.{rules}
 use Rattle.fields.proofs.Points as L
-use Rattle.fields.proofs.read_coordinate.Reads as read-coordinate-reads
 use Rattle.fields.proofs.read_point.Goals as goal
 
 pub read_coordinate-x-requires : goal.read_coordinate-x-requires

@@ -1,6 +1,5 @@
 use borrow.Author.Rules.{rules}
 use Rattle.fields.proofs.Words as L
-use Rattle.codec.proofs.read_number.Reads as read-number-reads
 use Rattle.fields.proofs.read_word.Goals as goal
 
 pub offset_bounds-words-o : goal.offset_bounds-words-o

@@ -1,8 +1,5 @@
 use Rattle.files.proofs.OpenLaws as L
 use borrow.Author.Rules.{rules}
-use Rattle.building.proofs.clear.Reads as clear_reads
-use Rattle.files.proofs.is_map_file.Reads as is-map-file-reads
-use Rattle.files.proofs.read_map.Reads as read-map-reads
 use Rattle.files.proofs.open_map.Goals as goal
 
 pub returns-then-words-ne-WORDS : goal.returns-then-words-ne-WORDS

@@ -1,8 +1,5 @@
 use Rattle.files.proofs.SetReadLaws as L
 use borrow.Author.Rules.{rules}
-use Rattle.set_tests.proofs.is_set.Reads as is-set-reads
-use Rattle.rows.proofs.put.Reads as put_reads
-use Rattle.setfile.proofs.load_set.Reads as load-set-reads
 use Rattle.files.proofs.read_changes.Goals as goal
 
 pub returns-then-set-ne3556 : goal.returns-then-set-ne3556

@@ -1,7 +1,5 @@
 use borrow.Author.Rules.{rules}
 use Rattle.files.proofs.ReadLaws as L
-use Rattle.files.proofs.is_map_file.Reads as is-map-file-reads
-use Rattle.mapload.proofs.load_map.Reads as load-map-reads
 use Rattle.files.proofs.read_map.Goals as goal
 
 pub returns-then-words-ne-WORDS : goal.returns-then-words-ne-WORDS

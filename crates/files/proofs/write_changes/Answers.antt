@@ -1,7 +1,5 @@
 use Rattle.files.proofs.WriteLaws as L
 use borrow.Author.Rules.{rules}
-use Rattle.set_tests.proofs.is_set.Reads as is-set-reads
-use Rattle.setfile.proofs.put_set.Reads as put-set-reads
 use Rattle.files.proofs.write_changes.Goals as goal
 
 pub is_set-requires : goal.is_set-requires

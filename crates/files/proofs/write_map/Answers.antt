@@ -1,7 +1,5 @@
 use Rattle.files.proofs.WriteLaws as L
 use borrow.Author.Rules.{rules}
-use Rattle.validity.proofs.is_map.Reads as is-map-reads
-use Rattle.mapput.proofs.put_map.Reads as put-map-reads
 use Rattle.files.proofs.write_map.Goals as goal
 
 pub is_map-requires : goal.is_map-requires

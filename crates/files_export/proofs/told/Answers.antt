@@ -1,6 +1,5 @@
 -- `files_export::told` meets its contract. Assumes nothing.
 use Rattle.files_export.proofs.Laws.{told_done}
-use borrow.Author.Rules.{rules}
 use Rattle.files_export.proofs.told.Goals as goal
 
 pub returns-in-Done : goal.returns-in-Done

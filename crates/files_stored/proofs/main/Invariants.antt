@@ -1,7 +1,5 @@
-use lib.ListN.{length}
 use mathlib.Core.Path.{◌≡◌}
 use Prim.Native.Nat.{◌-◌, ◌≤◌}
-use borrow.Author.Rules.{rules}
 use Rattle.files_stored.proofs.main.Given as goal
 
 abbrev pub invariant-loop-i : goal.invariant-loop-i

@@ -1,7 +1,6 @@
 -- `finishing::check_lent` meets its contract. Assumes nothing.
 use mathlib.Core.List.{[]}
 use Rattle.finishing.proofs.LentLaws as L
-use borrow.Author.Rules.{rules}
 use Rattle.finishing.proofs.check_lent.Goals as goal
 
 pub returns-then-not-is_map : goal.returns-then-not-is_map

@@ -3,7 +3,6 @@ use mathlib.Core.Path.{ap, sym, ◌∙◌}
 use native.Mathlib.Omega.{arith}
 use Rattle.changes.specs.Layout.{lists_ok_in}
 use Rattle.finishing.proofs.SettleLaws as L
-use borrow.Author.Rules.{rules}
 use Rattle.finishing.proofs.settles.Goals as goal
 
 pub put-requires : goal.put-requires

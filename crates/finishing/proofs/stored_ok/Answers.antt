@@ -1,6 +1,5 @@
 -- `finishing::stored_ok` meets its contract. Assumes nothing.
 use Rattle.finishing.proofs.StoredLaws as L
-use borrow.Author.Rules.{rules}
 use Rattle.finishing.proofs.stored_ok.Goals as goal
 
 pub returns : goal.returns

@@ -1,6 +1,5 @@
 -- `finishing::take_any` meets its contract. Assumes nothing.
 use Rattle.finishing.proofs.SettleLaws as L
-use borrow.Author.Rules.{rules}
 use Rattle.finishing.proofs.take_any.Goals as goal
 
 pub fold_fitted-requires : goal.fold_fitted-requires

@@ -1,7 +1,6 @@
 -- `finishing::take_in` meets its contract. Assumes nothing.
 use native.Mathlib.Omega.{arith}
 use Rattle.finishing.proofs.SettleLaws as L
-use borrow.Author.Rules.{rules}
 use Rattle.finishing.proofs.take_in.Goals as goal
 
 pub crowd-requires : goal.crowd-requires

@@ -1,5 +1,4 @@
 -- `geometry_replay::parts` is safe and ends: fewer parts are left. Assumes nothing.
-use Rattle.std.proofs.Common.{arith, rules}
 use Rattle.geometry_replay.proofs.parts.Given as goal
 
 abbrev pub invariant-loop-left : goal.invariant-loop-left

@@ -1,6 +1,5 @@
 -- `grouping::first_of` meets its contract. Assumes nothing.
 use Rattle.grouping.proofs.JoinLaws.{first_some}
-use borrow.Author.Rules.{rules}
 use Rattle.grouping.proofs.first_of.Goals as goal
 
 pub returns : goal.returns

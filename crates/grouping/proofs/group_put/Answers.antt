@@ -2,7 +2,6 @@
 use native.Mathlib.Omega.{arith}
 use Rattle.map.proofs.UpdateLaws.{rule_limit}
 use Rattle.grouping.proofs.JoinLaws.{line_ready, lanes_ready, group_put}
-use borrow.Author.Rules.{rules}
 use Rattle.grouping.proofs.group_put.Goals as goal
 
 pub rule_head-requires : goal.rule_head-requires

@@ -1,13 +1,9 @@
 -- `grouping::joined_lanes` meets its contract. Assumes nothing.
 use Prim.Native.Nat.{◌-◌, ◌<◌}
 use mathlib.Core.Path.{◌≡◌}
-use lib.ListN.{length}
 use native.Mathlib.Omega.{arith}
-use Rattle.store.specs.Layout.{SizedWords, count_of, row_of}
-use Rattle.map.specs.Tables.{list_at}
 use Rattle.map.proofs.UpdateLaws.{rule_limit}
-use Rattle.grouping.proofs.JoinLaws.{Joining, join_start, join_end, join_skip, join_full, join_more}
-use borrow.Author.Rules.{rules}
+use Rattle.grouping.proofs.JoinLaws.{join_start, join_end, join_skip, join_full, join_more}
 use Rattle.grouping.proofs.joined_lanes.Goals as goal
 
 pub rule_entries-start-requires : goal.rule_entries-start-requires

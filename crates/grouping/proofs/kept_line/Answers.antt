@@ -1,6 +1,5 @@
 -- `grouping::kept_line` meets its contract. Assumes nothing.
 use Rattle.grouping.proofs.JoinLaws.{line_kept}
-use borrow.Author.Rules.{rules}
 use Rattle.grouping.proofs.kept_line.Goals as goal
 
 pub returns : goal.returns

@@ -1,6 +1,5 @@
 -- `grouping::line_words` meets its contract. Assumes nothing.
 use Rattle.grouping.proofs.JoinLaws.{words_some}
-use borrow.Author.Rules.{rules}
 use Rattle.grouping.proofs.line_words.Goals as goal
 
 pub returns : goal.returns

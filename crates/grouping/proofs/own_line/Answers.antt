@@ -1,6 +1,5 @@
 -- `grouping::own_line` meets its contract. Assumes nothing.
 use Rattle.grouping.proofs.JoinLaws.{own_line}
-use borrow.Author.Rules.{rules}
 use Rattle.grouping.proofs.own_line.Goals as goal
 
 pub returns-then-h : goal.returns-then-h

@@ -2,7 +2,6 @@
 use native.Mathlib.Omega.{arith}
 use Rattle.map.proofs.UpdateLaws.{rule_limit}
 use Rattle.grouping.proofs.JoinLaws.{signals_long, signals_part, signals_put}
-use borrow.Author.Rules.{rules}
 use Rattle.grouping.proofs.put_signal.Goals as goal
 
 pub rule_entries-before-requires : goal.rule_entries-before-requires

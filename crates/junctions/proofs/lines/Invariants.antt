@@ -1,5 +1,5 @@
 -- `junctions::lines` is safe and ends: the text's end comes nearer with each line. Assumes nothing.
-use Rattle.std.proofs.Common.{◌≡◌, ◌-◌, ◌≤◌, length, rules}
+use Rattle.std.proofs.Common.{◌≡◌, ◌-◌, ◌≤◌, length}
 use Rattle.junctions.proofs.lines.Given as goal
 
 abbrev pub invariant-loop-at : goal.invariant-loop-at

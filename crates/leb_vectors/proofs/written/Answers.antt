@@ -1,11 +1,5 @@
 use native.Mathlib.Omega.{arith}
 use Rattle.codec.proofs.NumberLaws.{number_short}
-use borrow.Author.Rules.{rules}
-use Rattle.codec.proofs.write_number.Reads as write-number-reads
-use Rattle.io.proofs.print_decimal.Reads as print-decimal-reads
-use Rattle.io.proofs.write_all.Reads as write-all-reads
-use Rattle.leb_vectors.proofs.show_bytes.Reads as show-bytes-reads
-use Rattle.leb_vectors.proofs.show_read.Reads as show-read-reads
 use Rattle.leb_vectors.proofs.written.Goals as goal
 
 pub write_number-size-requires : goal.write_number-size-requires

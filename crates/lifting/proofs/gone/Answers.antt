@@ -2,9 +2,7 @@
 use Prim.Native.Nat.{◌-◌}
 use mathlib.Core.Path.{◌≡◌}
 use native.Mathlib.Omega.{arith}
-use Rattle.store.specs.Layout.{count_of}
-use Rattle.lifting.proofs.GoneLaws.{Freeing, freeing_start, freeing_next, freeing_end, rules_few}
-use borrow.Author.Rules.{rules}
+use Rattle.lifting.proofs.GoneLaws.{freeing_start, freeing_next, freeing_end, rules_few}
 use Rattle.lifting.proofs.gone.Goals as goal
 
 pub loop-i-init : goal.loop-i-init

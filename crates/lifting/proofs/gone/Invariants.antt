@@ -1,9 +1,8 @@
 -- `lifting::gone` meets its contract. Assumes nothing.
 use Prim.Native.Nat.{◌-◌}
 use mathlib.Core.Path.{◌≡◌}
-use native.Mathlib.Omega.{arith}
 use Rattle.store.specs.Layout.{count_of}
-use Rattle.lifting.proofs.GoneLaws.{Freeing, freeing_start, freeing_next, freeing_end, rules_few}
+use Rattle.lifting.proofs.GoneLaws.{Freeing}
 use borrow.Author.Rules.{rules}
 use Rattle.lifting.proofs.gone.Given as goal
 

@@ -1,7 +1,6 @@
 -- `lifting::gone_at` meets its contract. Assumes nothing.
 use Rattle.lifting.proofs.OneLaws.{head_asks}
 use Rattle.lifting.proofs.GoneLaws.{gone_here_lem, gone_kept, gone_eased}
-use borrow.Author.Rules.{rules}
 use Rattle.lifting.proofs.gone_at.Goals as goal
 
 pub rule_head-requires : goal.rule_head-requires

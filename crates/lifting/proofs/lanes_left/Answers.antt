@@ -1,8 +1,7 @@
 -- `lifting::lanes_left` meets its contract. Assumes nothing.
 use Prim.Native.Nat.{◌-◌}
 use native.Mathlib.Omega.{arith}
-use lib.ListN.{length}
-use Rattle.lifting.proofs.OneLaws.{Sifted, sifted_start, sifted_end, sifted_more, sifted_less}
+use Rattle.lifting.proofs.OneLaws.{sifted_start, sifted_end, sifted_more, sifted_less}
 use borrow.Author.Rules.{rules}
 use Rattle.lifting.proofs.lanes_left.Goals as goal
 use Rattle.lifting.proofs.lanes_left.Goals.{else-not-member, then-not-member}

@@ -1,10 +1,8 @@
 -- `lifting::lanes_left` meets its contract. Assumes nothing.
 use Prim.Native.Nat.{◌-◌}
-use native.Mathlib.Omega.{arith}
 use lib.ListN.{length}
 use mathlib.Core.Logic.{⊎_elim}
-use Rattle.lifting.proofs.OneLaws.{Sifted, sifted_start, sifted_end, sifted_more, sifted_less}
-use borrow.Author.Rules.{rules}
+use Rattle.lifting.proofs.OneLaws.{Sifted}
 use Rattle.lifting.proofs.lanes_left.Given as goal
 
 abbrev pub invariant-loop-i : goal.invariant-loop-i

@@ -1,6 +1,5 @@
 -- `lifting::lift_of` meets its contract. Assumes nothing.
 use Rattle.lifting.proofs.OneLaws.{list_asks, head_asks, list_short, lift_off, lift_kept, lift_gone, lift_eased}
-use borrow.Author.Rules.{rules}
 use Rattle.lifting.proofs.lift_of.Goals as goal
 
 pub rule_list-list-requires : goal.rule_list-list-requires

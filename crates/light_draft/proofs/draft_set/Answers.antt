@@ -2,7 +2,6 @@
 use mathlib.Core.Path.{refl}
 use native.Mathlib.Omega.{arith}
 use Rattle.light_draft.proofs.StepLaws.{few_none, few_more, push_asks, warn_asks, all_fit, set_drafted}
-use borrow.Author.Rules.{rules}
 use Rattle.light_draft.proofs.draft_set.Goals as goal
 
 pub push_if-requires : goal.push_if-requires

@@ -1,7 +1,6 @@
 -- `light_draft::joined_light` meets its contract. Assumes nothing.
 use native.Mathlib.Omega.{arith}
 use Rattle.light_draft.proofs.StepLaws.{one_few, joined_late, joined_right}
-use borrow.Author.Rules.{rules}
 use Rattle.light_draft.proofs.joined_light.Goals as goal
 
 pub overflow_sub-more : goal.overflow_sub-more

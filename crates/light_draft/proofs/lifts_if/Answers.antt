@@ -1,7 +1,5 @@
 -- `light_draft::lifts_if` meets its contract. Assumes nothing.
-use borrow.Author.Tests.{not-true, not-false}
 use Rattle.light_draft.proofs.StepLaws.{lifts_none, lifts_some}
-use borrow.Author.Rules.{rules}
 use Rattle.light_draft.proofs.lifts_if.Goals as goal
 
 pub returns-then-not-b : goal.returns-then-not-b

@@ -1,6 +1,5 @@
 -- `light_draft::light_of` meets its contract. Assumes nothing.
 use Rattle.light_draft.proofs.StepLaws.{light_numbered}
-use borrow.Author.Rules.{rules}
 use Rattle.light_draft.proofs.light_of.Goals as goal
 
 pub returns-in-Nothing : goal.returns-in-Nothing

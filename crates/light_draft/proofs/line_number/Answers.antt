@@ -1,5 +1,4 @@
 -- `light_draft::line_number` meets its contract. Assumes nothing.
-use borrow.Author.Rules.{rules}
 use Rattle.light_draft.proofs.line_number.Goals as goal
 
 pub returns-in-Use : goal.returns-in-Use

@@ -1,7 +1,6 @@
 -- `light_draft::new_light` meets its contract. Assumes nothing.
 use native.Mathlib.Omega.{arith}
 use Rattle.light_draft.proofs.StepLaws.{one_few, new_late, new_right}
-use borrow.Author.Rules.{rules}
 use Rattle.light_draft.proofs.new_light.Goals as goal
 
 pub overflow_sub-more : goal.overflow_sub-more

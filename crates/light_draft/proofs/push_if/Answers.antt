@@ -1,7 +1,5 @@
 -- `light_draft::push_if` meets its contract. Assumes nothing.
-use borrow.Author.Tests.{not-true, not-false}
 use Rattle.light_draft.proofs.StepLaws.{push_none, push_some, push_room}
-use borrow.Author.Rules.{rules}
 use Rattle.light_draft.proofs.push_if.Goals as goal
 
 pub returns-then-not-b : goal.returns-then-not-b

@@ -1,7 +1,5 @@
 -- `light_draft::warn_if` meets its contract. Assumes nothing.
-use borrow.Author.Tests.{not-true, not-false}
 use Rattle.light_draft.proofs.StepLaws.{warn_none, warn_some, warn_room}
-use borrow.Author.Rules.{rules}
 use Rattle.light_draft.proofs.warn_if.Goals as goal
 
 pub returns-then-not-b : goal.returns-then-not-b

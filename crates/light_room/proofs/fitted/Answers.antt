@@ -1,7 +1,5 @@
 -- `light_room::fitted` meets its contract. Assumes nothing.
-use borrow.Author.Tests.{not-true, not-false}
 use Rattle.light_room.proofs.TestLaws.{freed_few, more_few, fitted_off, fitted_full, fitted_fine}
-use borrow.Author.Rules.{rules}
 use Rattle.light_room.proofs.fitted.Goals as goal
 
 pub returns-then-not-on_map : goal.returns-then-not-on_map

@@ -6,7 +6,6 @@ use Rattle.map.proofs.SoundLaws.{sound}
 use Rattle.place.proofs.Sound.{readable}
 use Rattle.light_room.proofs.TestLaws.{points_few}
 use Rattle.light_room.proofs.PlanLaws.{plan_lost, plan_full, plan_ready}
-use borrow.Author.Rules.{rules}
 use Rattle.light_room.proofs.signal_plan.Goals as goal
 
 pub light_plan-p-requires : goal.light_plan-p-requires
@@ -27,13 +26,13 @@ lamps_on-on-requires c = λ e. c.bulbs_of-bulbs.ensures.standard e
 
 pub fitted-end-requires : goal.fitted-end-requires
 fitted-end-requires c = (
-      (readable _ _ c.requires).words,
-      shapes_few _ _ (sound _ _ c.requires),
-      map_few _ (λ j. omega (arith, c.shared_slice_known-1.given j)) _ (λ j. c.shared_slice_known-2-1.given j) c.requires,
-      points_few _ _ c.requires,
-      c.light_plan-p.ensures.read.line,
-      c.light_plan-p.ensures.read.housing,
-    )
+  (readable _ _ c.requires).words,
+  shapes_few _ _ (sound _ _ c.requires),
+  map_few _ (λ j. omega (arith, c.shared_slice_known-1.given j)) _ (λ j. c.shared_slice_known-2-1.given j) c.requires,
+  points_few _ _ c.requires,
+  c.light_plan-p.ensures.read.line,
+  c.light_plan-p.ensures.read.housing,
+)
 
 pub returns-in-Refused-end : goal.returns-in-Refused-end
 returns-in-Refused-end c = plan_full _ _ c.requires c.args.q c.args.lanes.now c.args.points.now c.args.given.now c.args.lamps.now c.light_plan-p.result c.light_plan-p.ensures

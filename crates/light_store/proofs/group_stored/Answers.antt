@@ -1,9 +1,7 @@
 -- `light_store::group_stored` meets its contract. Assumes nothing.
 use lib.ListN.{length-take}
 use native.Mathlib.Omega.{arith}
-use borrow.Author.Tests.{not-true, not-false}
 use Rattle.light_store.proofs.StoreLaws.{not_joined, never_lost, put_asks, joined_put}
-use borrow.Author.Rules.{rules}
 use Rattle.light_store.proofs.group_stored.Goals as goal
 
 pub returns-then-not-l : goal.returns-then-not-l

@@ -1,7 +1,5 @@
 -- `light_store::lift_stored` meets its contract. Assumes nothing.
-use borrow.Author.Tests.{not-true, not-false}
 use Rattle.light_store.proofs.StoreLaws.{lift_none, lift_some}
-use borrow.Author.Rules.{rules}
 use Rattle.light_store.proofs.lift_stored.Goals as goal
 
 pub returns-then-not-l : goal.returns-then-not-l

@@ -1,9 +1,7 @@
 -- `light_store::line_stored` meets its contract. Assumes nothing.
 use native.Mathlib.Omega.{arith}
-use borrow.Author.Tests.{not-true, not-false}
 use Rattle.place.proofs.LineLaws.{part_long}
 use Rattle.light_store.proofs.StoreLaws.{line_none, line_some, coords_few}
-use borrow.Author.Rules.{rules}
 use Rattle.light_store.proofs.line_stored.Goals as goal
 
 pub returns-then-not-drawn : goal.returns-then-not-drawn

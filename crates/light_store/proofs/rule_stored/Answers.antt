@@ -1,7 +1,6 @@
 -- `light_store::rule_stored` meets its contract. Assumes nothing.
 use native.Mathlib.Omega.{arith}
 use Rattle.light_store.proofs.StoreLaws.{rule_none, rule_some}
-use borrow.Author.Rules.{rules}
 use Rattle.light_store.proofs.rule_stored.Goals as goal
 
 pub returns-then-l : goal.returns-then-l

@@ -1,6 +1,5 @@
 -- `light_store::store_light` meets its contract. Assumes nothing.
 use Rattle.light_store.proofs.StoreLaws.{group_asks, line_asks, signal_needs, rule_asks, light_stored}
-use borrow.Author.Rules.{rules}
 use Rattle.light_store.proofs.store_light.Goals as goal
 
 pub group_stored-requires : goal.group_stored-requires

@@ -1,7 +1,6 @@
 -- `links::carry_out` meets its contract. Assumes nothing.
 use Rattle.links.proofs.CarryLaws as K
 use native.Mathlib.Omega.{arith}
-use borrow.Author.Rules.{rules}
 use Rattle.links.proofs.carry_out.Goals as goal
 
 pub same_links-same-requires : goal.same_links-same-requires

@@ -1,6 +1,5 @@
 -- `links::check_fold` meets its contract. Assumes nothing.
 use Rattle.links.proofs.CarryLaws as K
-use borrow.Author.Rules.{rules}
 use Rattle.links.proofs.check_fold.Goals as goal
 
 pub returns-then-fold_room : goal.returns-then-fold_room

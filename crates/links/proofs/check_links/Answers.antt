@@ -1,7 +1,6 @@
 -- `links::check_links` meets its contract. Assumes nothing.
 use Rattle.links.proofs.CarryLaws as K
 use Rattle.links.specs.Linked.{rule_links}
-use borrow.Author.Rules.{rules}
 use Rattle.links.proofs.check_links.Goals as goal
 
 pub returns-then-not-holds : goal.returns-then-not-holds

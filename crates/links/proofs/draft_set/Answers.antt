@@ -1,8 +1,6 @@
 -- `links::draft_set` meets its contract. Assumes nothing.
 use Rattle.links.proofs.CarryLaws as K
 use native.Mathlib.Omega.{arith}
-use borrow.Author.Tests.{not-true, not-false}
-use borrow.Author.Rules.{rules}
 use Rattle.links.proofs.draft_set.Goals as goal
 
 pub push-requires : goal.push-requires

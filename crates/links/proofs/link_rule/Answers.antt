@@ -1,7 +1,6 @@
 -- `links::link_rule` meets its contract. Assumes nothing.
 use Rattle.links.proofs.CarryLaws as K
 use native.Mathlib.Omega.{arith}
-use borrow.Author.Rules.{rules}
 use Rattle.links.proofs.link_rule.Goals as goal
 
 pub find-f-requires : goal.find-f-requires

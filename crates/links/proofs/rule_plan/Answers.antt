@@ -1,6 +1,5 @@
 -- `links::rule_plan` meets its contract. Assumes nothing.
 use Rattle.links.proofs.CarryLaws as K
-use borrow.Author.Rules.{rules}
 use Rattle.links.proofs.rule_plan.Goals as goal
 
 pub returns-in-Refused : goal.returns-in-Refused

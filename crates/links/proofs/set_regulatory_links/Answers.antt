@@ -2,7 +2,6 @@
 use Rattle.links.proofs.CarryLaws as K
 use Rattle.links.specs.Linked.{rule_links}
 use native.Mathlib.Omega.{arith}
-use borrow.Author.Rules.{rules}
 use Rattle.links.proofs.set_regulatory_links.Goals as goal
 
 pub returns-in-Refused : goal.returns-in-Refused

@@ -1,11 +1,5 @@
 use native.Mathlib.Omega.{arith}
-use borrow.Author.Rules.{rules}
 use Rattle.loading.proofs.LoadLaws as L
-use Rattle.loading.proofs.read_record.Reads as read-record-reads
-use Rattle.store.proofs.layout.coord_place.Reads as coord-place-reads
-use Rattle.store.proofs.layout.coord_width.Reads as coord-width-reads
-use Rattle.store.proofs.layout.place.Reads as place-reads
-use Rattle.store.proofs.layout.width.Reads as width-reads
 use Rattle.loading.proofs.load_row.Goals as goal
 
 pub overflow_add-e : goal.overflow_add-e

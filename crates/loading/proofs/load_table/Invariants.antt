@@ -1,9 +1,5 @@
 use Prim.Native.Nat.{◌-◌}
-use borrow.Author.Rules.{rules}
 use Rattle.loading.proofs.LoadLaws as L
-use Rattle.fields.proofs.read_word.Reads as read-word-reads
-use Rattle.loading.proofs.load_row.Reads as load-row-reads
-use Rattle.store.proofs.layout.limit.Reads as limit-reads
 use Rattle.loading.proofs.load_table.Given as goal
 
 abbrev pub invariant-loop-i : goal.invariant-loop-i

@@ -1,10 +1,5 @@
 use borrow.Author.Rules.{rules}
 use Rattle.loading.proofs.LoadLaws as L
-use Rattle.records.proofs.read_crosswalk.Reads as read-crosswalk-reads
-use Rattle.records.proofs.read_lane.Reads as read-lane-reads
-use Rattle.records.proofs.read_line_string.Reads as read-line-string-reads
-use Rattle.records.proofs.read_rule.Reads as read-rule-reads
-use Rattle.records.proofs.read_signal.Reads as read-signal-reads
 use Rattle.loading.proofs.read_record.Goals as goal
 
 pub read_lane-requires : goal.read_lane-requires

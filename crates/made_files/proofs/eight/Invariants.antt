@@ -1,4 +1,4 @@
-use Rattle.std.proofs.Common.{◌≡◌, ◌-◌, ◌≤◌, length, rules}
+use Rattle.std.proofs.Common.{◌≡◌, ◌-◌, length}
 use Rattle.made_files.proofs.eight.Given as goal
 
 abbrev pub invariant-loop-k : goal.invariant-loop-k

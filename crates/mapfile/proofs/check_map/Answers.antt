@@ -1,7 +1,5 @@
 use borrow.Author.Rules.{rules}
 use Rattle.mapfile.proofs.MapLaws as L
-use Rattle.fields.proofs.read_word.Reads as read-word-reads
-use Rattle.mapfile.proofs.check_tables.Reads as check-tables-reads
 use Rattle.mapfile.proofs.check_map.Goals as goal
 
 pub read_word-p-requires : goal.read_word-p-requires

@@ -1,6 +1,5 @@
 use borrow.Author.Rules.{rules}
 use Rattle.mapfile.proofs.MapLaws as L
-use Rattle.checking.proofs.check_table.Reads as check-table-reads
 use Rattle.mapfile.proofs.check_tables.Goals as goal
 
 pub check_table-lanes-requires : goal.check_table-lanes-requires

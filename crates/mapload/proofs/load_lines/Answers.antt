@@ -1,7 +1,5 @@
 use borrow.Author.Rules.{rules}
 use Rattle.mapload.proofs.MapLoadLaws as L
-use Rattle.loading.proofs.load_table.Reads as load-table-reads
-use Rattle.mapload.proofs.load_marks.Reads as load-marks-reads
 use Rattle.mapload.proofs.load_lines.Goals as goal
 
 pub load_table-q-requires : goal.load_table-q-requires

@@ -1,8 +1,5 @@
 use borrow.Author.Rules.{rules}
 use Rattle.mapload.proofs.MapLoadLaws as L
-use Rattle.fields.proofs.read_word.Reads as read-word-reads
-use Rattle.loading.proofs.load_table.Reads as load-table-reads
-use Rattle.mapload.proofs.load_lines.Reads as load-lines-reads
 use Rattle.mapload.proofs.load_map.Goals as goal
 
 pub read_word-p-requires : goal.read_word-p-requires

@@ -1,7 +1,5 @@
 use Rattle.mapput.proofs.RecordLaws as L
 use borrow.Author.Rules.{rules}
-use Rattle.putfields.proofs.put_numbers.Reads as put-numbers-reads
-use Rattle.putting.proofs.put_number.Reads as put-number-reads
 use Rattle.mapput.proofs.put_crossing.Goals as goal
 
 pub bounds-words-2 : goal.bounds-words-2

@@ -1,10 +1,5 @@
 use Rattle.mapput.proofs.RecordLaws as L
 use borrow.Author.Rules.{rules}
-use Rattle.mapput.proofs.put_crossing.Reads as put-crossing-reads
-use Rattle.mapput.proofs.put_light.Reads as put-light-reads
-use Rattle.mapput.proofs.put_right_of_way.Reads as put-right-of-way-reads
-use Rattle.mapput.proofs.put_sign.Reads as put-sign-reads
-use Rattle.putting.proofs.put_number.Reads as put-number-reads
 use Rattle.mapput.proofs.put_fields.Goals as goal
 
 pub put_light-requires : goal.put_light-requires

@@ -1,8 +1,5 @@
 use Rattle.mapput.proofs.RecordLaws as L
 use borrow.Author.Rules.{rules}
-use Rattle.mapput.proofs.put_side.Reads as put-side-reads
-use Rattle.putfields.proofs.put_option_line.Reads as put-option-line-reads
-use Rattle.putting.proofs.put_number.Reads as put-number-reads
 use Rattle.mapput.proofs.put_lane.Goals as goal
 
 pub bounds-words-0 : goal.bounds-words-0

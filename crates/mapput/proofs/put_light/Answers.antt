@@ -1,7 +1,5 @@
 use Rattle.mapput.proofs.RecordLaws as L
 use borrow.Author.Rules.{rules}
-use Rattle.putfields.proofs.put_numbers.Reads as put-numbers-reads
-use Rattle.putfields.proofs.put_option_number.Reads as put-option-number-reads
 use Rattle.mapput.proofs.put_light.Goals as goal
 
 pub bounds-words-41 : goal.bounds-words-41

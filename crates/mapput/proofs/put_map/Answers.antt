@@ -1,8 +1,5 @@
 use Rattle.mapput.proofs.TableLaws as L
 use borrow.Author.Rules.{rules}
-use Rattle.mapput.proofs.put_marks.Reads as put-marks-reads
-use Rattle.mapput.proofs.put_table.Reads as put-table-reads
-use Rattle.putting.proofs.put_number.Reads as put-number-reads
 use Rattle.mapput.proofs.put_map.Goals as goal
 
 pub bounds-words-0 : goal.bounds-words-0

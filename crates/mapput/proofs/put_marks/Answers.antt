@@ -1,6 +1,5 @@
 use Rattle.mapput.proofs.TableLaws as L
 use borrow.Author.Rules.{rules}
-use Rattle.mapput.proofs.put_table.Reads as put-table-reads
 use Rattle.mapput.proofs.put_marks.Goals as goal
 
 pub put_table-crosswalks-requires : goal.put_table-crosswalks-requires

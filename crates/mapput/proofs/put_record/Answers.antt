@@ -1,10 +1,5 @@
 use Rattle.mapput.proofs.TableLaws as L
 use borrow.Author.Rules.{rules}
-use Rattle.mapput.proofs.put_crosswalk.Reads as put-crosswalk-reads
-use Rattle.mapput.proofs.put_lane.Reads as put-lane-reads
-use Rattle.mapput.proofs.put_line_string.Reads as put-line-string-reads
-use Rattle.mapput.proofs.put_rule.Reads as put-rule-reads
-use Rattle.mapput.proofs.put_signal.Reads as put-signal-reads
 use Rattle.mapput.proofs.put_record.Goals as goal
 
 pub put_lane-requires : goal.put_lane-requires

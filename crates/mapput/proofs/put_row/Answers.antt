@@ -2,11 +2,6 @@ use native.Mathlib.Omega.{arith}
 use Rattle.loading.proofs.LoadLaws as F
 use Rattle.mapput.proofs.TableLaws as L
 use borrow.Author.Rules.{rules}
-use Rattle.mapput.proofs.put_record.Reads as put-record-reads
-use Rattle.store.proofs.layout.coord_place.Reads as coord-place-reads
-use Rattle.store.proofs.layout.coord_width.Reads as coord-width-reads
-use Rattle.store.proofs.layout.place.Reads as place-reads
-use Rattle.store.proofs.layout.width.Reads as width-reads
 use Rattle.mapput.proofs.put_row.Goals as goal
 
 pub place-a-requires : goal.place-a-requires

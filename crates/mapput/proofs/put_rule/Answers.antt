@@ -1,9 +1,5 @@
 use Rattle.mapput.proofs.RecordLaws as L
 use borrow.Author.Rules.{rules}
-use Rattle.mapput.proofs.kind_of.Reads as kind-of-reads
-use Rattle.mapput.proofs.put_fields.Reads as put-fields-reads
-use Rattle.putfields.proofs.put_numbers.Reads as put-numbers-reads
-use Rattle.putting.proofs.put_number.Reads as put-number-reads
 use Rattle.mapput.proofs.put_rule.Goals as goal
 
 pub bounds-words-0 : goal.bounds-words-0

@@ -1,7 +1,5 @@
 use Rattle.mapput.proofs.RecordLaws as L
 use borrow.Author.Rules.{rules}
-use Rattle.putfields.proofs.put_flag.Reads as put-flag-reads
-use Rattle.putting.proofs.put_number.Reads as put-number-reads
 use Rattle.mapput.proofs.put_side.Goals as goal
 
 pub offset_bounds-words-o : goal.offset_bounds-words-o

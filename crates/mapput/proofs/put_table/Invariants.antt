@@ -1,9 +1,5 @@
 use Prim.Native.Nat.{◌-◌}
-use borrow.Author.Rules.{rules}
 use Rattle.mapput.proofs.TableLaws as L
-use Rattle.mapput.proofs.put_row.Reads as put-row-reads
-use Rattle.putting.proofs.put_number.Reads as put-number-reads
-use Rattle.rows.proofs.index.Reads as index_Reads
 use Rattle.mapput.proofs.put_table.Given as goal
 
 abbrev pub invariant-loop-i : goal.invariant-loop-i

@@ -1,7 +1,5 @@
 use Rattle.putfields.proofs.FieldLaws as L
 use borrow.Author.Rules.{rules}
-use Rattle.putfields.proofs.put_point.Reads as put-point-reads
-use Rattle.putfields.proofs.put_word.Reads as put-word-reads
 use Rattle.putfields.proofs.put_bulb.Goals as goal
 
 pub put_point-color-requires : goal.put_point-color-requires

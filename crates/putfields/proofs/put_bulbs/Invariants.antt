@@ -1,9 +1,5 @@
 use Prim.Native.Nat.{◌-◌}
-use borrow.Author.Rules.{rules}
 use Rattle.putfields.proofs.FieldLaws as L
-use Rattle.putfields.proofs.later.Reads as later-reads
-use Rattle.putfields.proofs.put_bulb.Reads as put-bulb-reads
-use Rattle.putting.proofs.put_number.Reads as put-number-reads
 use Rattle.putfields.proofs.put_bulbs.Given as goal
 
 abbrev pub invariant-loop-i : goal.invariant-loop-i

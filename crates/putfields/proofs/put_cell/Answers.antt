@@ -1,7 +1,5 @@
 use Rattle.putfields.proofs.FieldLaws as L
 use borrow.Author.Rules.{rules}
-use Rattle.putfields.proofs.put_double.Reads as put-double-reads
-use Rattle.putfields.proofs.put_nan.Reads as put-nan-reads
 use Rattle.putfields.proofs.put_cell.Goals as goal
 
 pub put_nan-requires : goal.put_nan-requires

@@ -1,6 +1,5 @@
 use Rattle.putfields.proofs.FieldLaws as L
 use borrow.Author.Rules.{rules}
-use Rattle.codec.proofs.write_double.Reads as write-double-reads
 use Rattle.putfields.proofs.put_double.Goals as goal
 
 pub enum_known-p : goal.enum_known-p

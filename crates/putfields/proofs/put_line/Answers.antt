@@ -1,9 +1,6 @@
 use borrow.Author.Rules.{rules}
 use Rattle.putfields.proofs.FieldLaws as L
 use Prim.Native.Nat.{◌-◌}
-use Rattle.putfields.proofs.later.Reads as later-reads
-use Rattle.putfields.proofs.put_point.Reads as put-point-reads
-use Rattle.putting.proofs.put_number.Reads as put-number-reads
 use Rattle.putfields.proofs.put_line.Goals as goal
 
 pub put_number-q-requires : goal.put_number-q-requires

@@ -1,8 +1,6 @@
 use Prim.Native.Nat.{◌-◌}
 use borrow.Author.Rules.{rules}
 use Rattle.putfields.proofs.FieldLaws as L
-use Rattle.putfields.proofs.put_word.Reads as put-word-reads
-use Rattle.putting.proofs.put_number.Reads as put-number-reads
 use Rattle.putfields.proofs.put_numbers.Goals as goal
 
 pub put_number-q-requires : goal.put_number-q-requires

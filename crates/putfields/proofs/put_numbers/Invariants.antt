@@ -1,8 +1,5 @@
 use Prim.Native.Nat.{◌-◌}
-use borrow.Author.Rules.{rules}
 use Rattle.putfields.proofs.FieldLaws as L
-use Rattle.putfields.proofs.put_word.Reads as put-word-reads
-use Rattle.putting.proofs.put_number.Reads as put-number-reads
 use Rattle.putfields.proofs.put_numbers.Given as goal
 
 abbrev pub invariant-loop-i : goal.invariant-loop-i

@@ -1,7 +1,5 @@
 use Rattle.putfields.proofs.FieldLaws as L
 use borrow.Author.Rules.{rules}
-use Rattle.putfields.proofs.put_line.Reads as put-line-reads
-use Rattle.putting.proofs.put_number.Reads as put-number-reads
 use Rattle.putfields.proofs.put_option_line.Goals as goal
 
 pub put_number-requires : goal.put_number-requires

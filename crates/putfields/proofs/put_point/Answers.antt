@@ -1,6 +1,5 @@
 use Rattle.putfields.proofs.FieldLaws as L
 use borrow.Author.Rules.{rules}
-use Rattle.putfields.proofs.put_cell.Reads as put-cell-reads
 use Rattle.putfields.proofs.put_point.Goals as goal
 
 pub put_cell-y-requires : goal.put_cell-y-requires

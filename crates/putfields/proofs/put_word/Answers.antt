@@ -1,7 +1,5 @@
 use Rattle.putfields.proofs.FieldLaws as L
 use borrow.Author.Rules.{rules}
-use Rattle.putfields.proofs.word.Reads as word-reads
-use Rattle.putting.proofs.put_number.Reads as put-number-reads
 use Rattle.putfields.proofs.put_word.Goals as goal
 
 pub word-w-requires : goal.word-w-requires

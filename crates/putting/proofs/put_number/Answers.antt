@@ -1,7 +1,5 @@
 use Rattle.putting.proofs.PutLaws as L
 use borrow.Author.Rules.{rules}
-use Rattle.codec.proofs.number_size.Reads as number-size-reads
-use Rattle.codec.proofs.write_number.Reads as write-number-reads
 use Rattle.putting.proofs.put_number.Goals as goal
 
 pub enum_known-p : goal.enum_known-p

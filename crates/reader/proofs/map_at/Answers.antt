@@ -1,7 +1,4 @@
 use Rattle.reader.proofs.ReaderLaws as L
-use borrow.Author.Rules.{rules}
-use Rattle.files.proofs.read_map.Reads as read-map-reads
-use Rattle.reader.proofs.begin.Reads as begin-reads
 use Rattle.reader.proofs.map_at.Goals as goal
 
 pub returns : goal.returns

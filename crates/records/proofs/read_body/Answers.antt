@@ -1,10 +1,5 @@
 use borrow.Author.Rules.{rules}
 use Rattle.records.proofs.RuleLaws as L
-use Rattle.fields.proofs.read_word.Reads as read-word-reads
-use Rattle.records.proofs.read_crossing.Reads as read-crossing-reads
-use Rattle.records.proofs.read_light.Reads as read-light-reads
-use Rattle.records.proofs.read_right_of_way.Reads as read-right-of-way-reads
-use Rattle.records.proofs.read_sign.Reads as read-sign-reads
 use Rattle.records.proofs.read_body.Goals as goal
 
 pub read_word-q-requires : goal.read_word-q-requires

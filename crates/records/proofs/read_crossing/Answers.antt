@@ -1,7 +1,5 @@
 use borrow.Author.Rules.{rules}
 use Rattle.records.proofs.RuleLaws as L
-use Rattle.fields.proofs.read_numbers.Reads as read-numbers-reads
-use Rattle.fields.proofs.read_word.Reads as read-word-reads
 use Rattle.records.proofs.read_crossing.Goals as goal
 
 pub read_word-lines-requires : goal.read_word-lines-requires

@@ -1,8 +1,5 @@
 use borrow.Author.Rules.{rules}
 use Rattle.records.proofs.RecordLaws as L
-use Rattle.fields.proofs.read_line.Reads as read-line-reads
-use Rattle.fields.proofs.read_option_line.Reads as read-option-line-reads
-use Rattle.fields.proofs.read_word.Reads as read-word-reads
 use Rattle.records.proofs.read_crosswalk.Goals as goal
 
 pub read_word-left-requires : goal.read_word-left-requires

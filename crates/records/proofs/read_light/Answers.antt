@@ -1,7 +1,5 @@
 use borrow.Author.Rules.{rules}
 use Rattle.records.proofs.RuleLaws as L
-use Rattle.fields.proofs.read_numbers.Reads as read-numbers-reads
-use Rattle.fields.proofs.read_option_number.Reads as read-option-number-reads
 use Rattle.records.proofs.read_light.Goals as goal
 
 pub read_numbers-line-requires : goal.read_numbers-line-requires

@@ -1,6 +1,5 @@
 use borrow.Author.Rules.{rules}
 use Rattle.records.proofs.RuleLaws as L
-use Rattle.fields.proofs.read_numbers.Reads as read-numbers-reads
 use Rattle.records.proofs.read_right_of_way.Goals as goal
 
 pub read_numbers-yielding-requires : goal.read_numbers-yielding-requires

@@ -1,8 +1,5 @@
 use borrow.Author.Rules.{rules}
 use Rattle.records.proofs.RuleLaws as L
-use Rattle.fields.proofs.read_numbers.Reads as read-numbers-reads
-use Rattle.fields.proofs.read_word.Reads as read-word-reads
-use Rattle.records.proofs.read_body.Reads as read-body-reads
 use Rattle.records.proofs.read_rule.Goals as goal
 
 pub read_word-body-requires : goal.read_word-body-requires

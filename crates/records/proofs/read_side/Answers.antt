@@ -1,6 +1,5 @@
 use borrow.Author.Rules.{rules}
 use Rattle.records.proofs.RecordLaws as L
-use Rattle.fields.proofs.read_word.Reads as read-word-reads
 use Rattle.records.proofs.read_side.Goals as goal
 
 pub read_word-q-requires : goal.read_word-q-requires

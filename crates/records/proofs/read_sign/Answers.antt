@@ -1,8 +1,5 @@
 use borrow.Author.Rules.{rules}
 use Rattle.records.proofs.RuleLaws as L
-use Rattle.fields.proofs.read_option_line.Reads as read-option-line-reads
-use Rattle.fields.proofs.read_option_number.Reads as read-option-number-reads
-use Rattle.fields.proofs.read_word.Reads as read-word-reads
 use Rattle.records.proofs.read_sign.Goals as goal
 
 pub read_word-shape-requires : goal.read_word-shape-requires

@@ -1,10 +1,6 @@
 use native.Mathlib.Omega.{arith}
 use borrow.Author.Rules.{rules}
 use Rattle.records.proofs.RecordLaws as L
-use Rattle.fields.proofs.read_bulbs.Reads as read-bulbs-reads
-use Rattle.fields.proofs.read_line.Reads as read-line-reads
-use Rattle.fields.proofs.read_option_height.Reads as read-option-height-reads
-use Rattle.fields.proofs.read_word.Reads as read-word-reads
 use Rattle.records.proofs.read_signal.Goals as goal
 
 pub read_word-kind-requires : goal.read_word-kind-requires

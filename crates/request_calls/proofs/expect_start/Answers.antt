@@ -2,7 +2,6 @@
 use mathlib.Core.Path.{sym}
 use native.Mathlib.Omega.{arith}
 use lib.Seq.{length-take-le}
-use borrow.Author.Rules.{rules}
 use Rattle.request_calls.proofs.expect_start.Goals as goal
 
 pub slice_bounds-expect_file-end : goal.slice_bounds-expect_file-end

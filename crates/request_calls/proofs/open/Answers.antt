@@ -2,7 +2,6 @@
 use mathlib.Core.Path.{sym}
 use native.Mathlib.Omega.{arith}
 use lib.Seq.{length-take-le}
-use borrow.Author.Rules.{rules}
 use Rattle.request_calls.proofs.open.Goals as goal
 
 pub slice_bounds-open_file-end-2 : goal.slice_bounds-open_file-end-2

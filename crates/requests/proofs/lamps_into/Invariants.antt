@@ -1,5 +1,5 @@
 -- `requests::lamps_into` is safe and ends: the lamps left grow fewer. Assumes nothing.
-use Rattle.std.proofs.Common.{◌≡◌, ◌-◌, length, rules}
+use Rattle.std.proofs.Common.{◌≡◌, ◌-◌, length}
 use Rattle.requests.proofs.lamps_into.Given as goal
 
 abbrev pub invariant-loop-i : goal.invariant-loop-i

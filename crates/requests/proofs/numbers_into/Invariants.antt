@@ -1,5 +1,5 @@
 -- `requests::numbers_into` is safe and ends: the numbers left grow fewer. Assumes nothing.
-use Rattle.std.proofs.Common.{◌≡◌, ◌-◌, length, rules}
+use Rattle.std.proofs.Common.{◌≡◌, ◌-◌, length}
 use Rattle.requests.proofs.numbers_into.Given as goal
 
 abbrev pub invariant-loop-i : goal.invariant-loop-i

@@ -1,5 +1,5 @@
 -- `requests::reals_into` is safe and ends: the doubles left grow fewer. Assumes nothing.
-use Rattle.std.proofs.Common.{◌≡◌, ◌-◌, length, rules}
+use Rattle.std.proofs.Common.{◌≡◌, ◌-◌, length}
 use Rattle.requests.proofs.reals_into.Given as goal
 
 abbrev pub invariant-loop-i : goal.invariant-loop-i

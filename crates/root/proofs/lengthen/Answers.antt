@@ -1,7 +1,6 @@
 -- `root::lengthen` meets its contract, by `proofs/Doubling.antt`. Assumes nothing.
 use native.Mathlib.Omega.{arith}
 use Rattle.root.proofs.Doubling.{Corrected, bounds, kept, lowered}
-use borrow.Author.Rules.{rules}
 use Rattle.root.proofs.lengthen.Goals as goal
 use Rattle.root.proofs.lengthen.Goals.{else-v-q, then-v-q}
 

@@ -1,10 +1,8 @@
 -- `root::root_pattern` meets its contract. Assumes nothing.
-use borrow.Author.Rules.{rules}
 use native.Mathlib.Omega.{arith}
-use mathlib.Core.Path.{◌≡◌, sym, subst}
+use mathlib.Core.Path.{sym, subst}
 use Prim.Native.Nat.{ℕ}
 use Rattle.root.proofs.Rounded.{Even, at_even, at_odd, even_pattern, root_fits}
-use Rattle.root.proofs.whole_root.Reads as whole-root-reads
 use Rattle.root.proofs.root_pattern.Goals as goal
 use Rattle.root.proofs.root_pattern.Goals.{else-a-eq0, then-a-eq0}
 

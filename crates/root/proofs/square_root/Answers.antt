@@ -2,13 +2,11 @@
 use mathlib.Core.Path.{◌≡◌, sym, ap, ◌∙◌, subst}
 use mathlib.Core.Bool.{Bool, not}
 use lib.Dec.{T}
-use lib.Ieee.{Float, nan, binary64, fits, of_bits, to_bits, is_nan, nan_bits}
+use lib.Ieee.{Float, nan, binary64, fits, of_bits, to_bits, is_nan}
 use lib.Ieee.Bits.{of_bits-to_bits, nan_bits_is}
 use lib.Ieee.Compare.{differs_from_itself}
 use Rattle.root.specs.Root.{square_root}
 use Rattle.root.proofs.Patterns.{square_root_fits, not_nan, not_nan_bits, nan_pattern, nan_root, zero_by_zero}
-use borrow.Author.Rules.{rules}
-use Rattle.root.proofs.square_root_bits.Reads as square-root-bits-reads
 use Rattle.root.proofs.square_root.Goals as goal
 
 pub returns-then-x : goal.returns-then-x

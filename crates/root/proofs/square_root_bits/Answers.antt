@@ -1,13 +1,11 @@
 -- `root::square_root_bits` meets its contract, by the pattern's class. Assumes nothing.
 use native.Mathlib.Omega.{arith}
-use mathlib.Core.Path.{◌≡◌, sym, ap, ◌∙◌, subst}
-use Prim.Native.Nat.{ℕ, ◌*◌, ◌-◌, ◌^◌, ◌%◌, ◌≤◌, ◌<◌}
+use mathlib.Core.Path.{◌≡◌, sym, ap, ◌∙◌}
+use Prim.Native.Nat.{ℕ, ◌*◌, ◌-◌, ◌^◌, ◌%◌}
 use lib.Count.{count_leading_zeros, leading_le}
-use lib.Ieee.{binary64, of_bits, to_bits}
-use Rattle.root.specs.Root.{square_root, root_of}
+use lib.Ieee.{binary64, to_bits}
+use Rattle.root.specs.Root.{root_of}
 use Rattle.root.proofs.Patterns.{bits_zero, bits_minus_zero, bits_infinity, bits_nan, is_nan_lem, root_low, root_mid, Raised, raised, on_bits_lem}
-use borrow.Author.Rules.{rules}
-use Rattle.root.proofs.root_pattern.Reads as root-pattern-reads
 use Rattle.root.proofs.square_root_bits.Goals as goal
 
 pub returns-then-b-eq0 : goal.returns-then-b-eq0

@@ -2,8 +2,6 @@
 use native.Mathlib.Omega.{arith}
 use mathlib.Core.Path.{refl}
 use Rattle.root.proofs.Turns.{asks, turned}
-use borrow.Author.Rules.{rules}
-use Rattle.root.proofs.lengthen.Reads as lengthen-reads
 use Rattle.root.proofs.turn.Goals as goal
 
 pub lengthen-next-requires : goal.lengthen-next-requires

@@ -1,8 +1,6 @@
 -- `root::whole_root` meets its contract, by `proofs/Turns.antt`. The measure is how many turns are to come. Assumes nothing.
 use native.Mathlib.Omega.{arith}
-use Rattle.root.proofs.Turns.{Looped, start, asked, again, root_found}
-use borrow.Author.Rules.{rules}
-use Rattle.root.proofs.turn.Reads as turn-reads
+use Rattle.root.proofs.Turns.{start, asked, again, root_found}
 use Rattle.root.proofs.whole_root.Goals as goal
 
 pub loop-turns-init : goal.loop-turns-init

@@ -1,7 +1,5 @@
 -- `row_tests::body_ok` meets its contract. Assumes nothing.
 use Rattle.row_tests.proofs.Tests.{no_body}
-use native.Mathlib.Omega.{arith}
-use borrow.Author.Rules.{rules}
 use Rattle.row_tests.proofs.body_ok.Goals as goal
 
 pub returns-in-1 : goal.returns-in-1

@@ -1,8 +1,6 @@
 -- `row_tests::bulb_ok` meets its contract. Assumes nothing.
 use Rattle.row_tests.specs.Flat.{good_bulb}
 use borrow.Author.Tests.{le-ltb, lt-ltb}
-use native.Mathlib.Omega.{arith}
-use borrow.Author.Rules.{rules}
 use Rattle.row_tests.proofs.bulb_ok.Goals as goal
 
 pub returns-then-words-at-ge4 : goal.returns-then-words-at-ge4

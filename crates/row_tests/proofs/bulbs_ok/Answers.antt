@@ -1,15 +1,12 @@
 -- `row_tests::bulbs_ok` meets its contract. Assumes nothing.
 use Rattle.row_tests.specs.Flat.{good_bulb, good_bulbs}
 use Prim.Native.Nat.{◌+◌, ◌-◌, ◌≤◌}
-use mathlib.Core.Path.{◌≡◌, refl, sym, ap, ◌∙◌}
+use mathlib.Core.Path.{◌≡◌, sym, ◌∙◌}
 use native.Mathlib.Nat.{sub-zero}
-use lib.ListN.{get_or}
-use Rattle.rows.specs.Lists.{every, list_to}
 use Rattle.rows.proofs.RowLaws.{every_next, every_stop, every_end}
-use Rattle.rows.proofs.Indexed.{tab, tab_step, tab_none, list_to_tab}
-use borrow.Author.Tests.{lt-leb, le-leb, not-true, not-false}
+use Rattle.rows.proofs.Indexed.{tab_step, tab_none, list_to_tab}
+use borrow.Author.Tests.{lt-leb, le-leb}
 use native.Mathlib.Omega.{arith}
-use borrow.Author.Rules.{rules}
 use Rattle.row_tests.proofs.bulbs_ok.Goals as goal
 
 pub returns-then-n-gt4 : goal.returns-then-n-gt4

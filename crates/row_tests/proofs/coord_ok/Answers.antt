@@ -1,7 +1,5 @@
 -- `row_tests::coord_ok` meets its contract. Assumes nothing.
 use Rattle.row_tests.specs.Flat.{good_coord}
-use native.Mathlib.Omega.{arith}
-use borrow.Author.Rules.{rules}
 use Rattle.row_tests.proofs.coord_ok.Goals as goal
 
 pub returns-then-x : goal.returns-then-x

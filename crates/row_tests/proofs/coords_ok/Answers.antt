@@ -7,10 +7,8 @@ use mathlib.Core.List.{List, [], ◌∷◌}
 use native.Mathlib.Nat.{sub-zero, add-zero}
 use lib.Ieee.{Float, nan}
 use Rattle.rows.specs.Lists.{every}
-use Rattle.rows.specs.Rows.{cut}
 use Rattle.rows.proofs.RowLaws.{cut_step, cut_none}
 use native.Mathlib.Omega.{arith}
-use borrow.Author.Rules.{rules}
 use Rattle.row_tests.proofs.coords_ok.Goals as goal
 
 -- g says whether all entries passed are good, and b is the answer

@@ -1,16 +1,11 @@
 -- `row_tests::coords_ok` meets its contract. Assumes nothing.
 use Rattle.row_tests.specs.Flat.{good_coord}
 use Prim.Native.Nat.{◌+◌, ◌-◌, ◌≤◌}
-use mathlib.Core.Path.{◌≡◌, refl, sym, ◌∙◌}
-use mathlib.Core.Bool.{Bool, true, false, ◌&&◌}
-use mathlib.Core.List.{List, [], ◌∷◌}
-use native.Mathlib.Nat.{sub-zero, add-zero}
-use lib.Ieee.{Float, nan}
+use mathlib.Core.Path.{◌≡◌, ◌∙◌}
+use mathlib.Core.Bool.{◌&&◌}
+use mathlib.Core.List.{[], ◌∷◌}
 use Rattle.rows.specs.Lists.{every}
 use Rattle.rows.specs.Rows.{cut}
-use Rattle.rows.proofs.RowLaws.{cut_step, cut_none}
-use native.Mathlib.Omega.{arith}
-use borrow.Author.Rules.{rules}
 use Rattle.row_tests.proofs.coords_ok.Given as goal
 
 abbrev pub invariant-loop-i : goal.invariant-loop-i

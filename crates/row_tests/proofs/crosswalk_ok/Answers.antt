@@ -1,8 +1,6 @@
 -- `row_tests::crosswalk_ok` meets its contract. Assumes nothing.
 use Rattle.row_tests.specs.Flat.{good_crosswalk}
-use borrow.Author.Tests.{eq-eqb, ne_eqb, not-true, not-false}
-use native.Mathlib.Omega.{arith}
-use borrow.Author.Rules.{rules}
+use borrow.Author.Tests.{eq-eqb, ne_eqb}
 use Rattle.row_tests.proofs.crosswalk_ok.Goals as goal
 
 pub returns-then-not-line_ok : goal.returns-then-not-line_ok

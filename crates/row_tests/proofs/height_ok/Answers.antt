@@ -1,8 +1,6 @@
 -- `row_tests::height_ok` meets its contract. Assumes nothing.
 use Rattle.row_tests.specs.Flat.{good_height}
 use borrow.Author.Tests.{eq-eqb, ne_eqb}
-use native.Mathlib.Omega.{arith}
-use borrow.Author.Rules.{rules}
 use Rattle.row_tests.proofs.height_ok.Goals as goal
 
 pub returns-then-words-at-eq0 : goal.returns-then-words-at-eq0

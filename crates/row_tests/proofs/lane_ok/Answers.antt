@@ -1,8 +1,6 @@
 -- `row_tests::lane_ok` meets its contract. Assumes nothing.
 use Rattle.row_tests.specs.Flat.{good_lane}
 use borrow.Author.Tests.{le-ltb, lt-ltb, eq-eqb, ne_eqb}
-use native.Mathlib.Omega.{arith}
-use borrow.Author.Rules.{rules}
 use Rattle.row_tests.proofs.lane_ok.Goals as goal
 
 pub returns-then-words-at-ge8 : goal.returns-then-words-at-ge8

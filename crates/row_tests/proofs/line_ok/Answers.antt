@@ -2,8 +2,6 @@
 use Rattle.row_tests.specs.Flat.{good_line}
 use mathlib.Core.Path.{◌∙◌}
 use borrow.Author.Tests.{lt-leb, le-leb}
-use native.Mathlib.Omega.{arith}
-use borrow.Author.Rules.{rules}
 use Rattle.row_tests.proofs.line_ok.Goals as goal
 
 pub returns-then-n-gt64 : goal.returns-then-n-gt64

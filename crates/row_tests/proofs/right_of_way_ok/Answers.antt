@@ -1,7 +1,5 @@
 -- `row_tests::right_of_way_ok` meets its contract. Assumes nothing.
 use borrow.Author.Tests.{lt-leb, le-leb}
-use native.Mathlib.Omega.{arith}
-use borrow.Author.Rules.{rules}
 use Rattle.row_tests.proofs.right_of_way_ok.Goals as goal
 
 pub returns-then-words-at-gt16 : goal.returns-then-words-at-gt16

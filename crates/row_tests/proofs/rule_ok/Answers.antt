@@ -1,8 +1,6 @@
 -- `row_tests::rule_ok` meets its contract. Assumes nothing.
 use Rattle.row_tests.specs.Flat.{good_rule}
 use borrow.Author.Tests.{lt-leb, le-leb}
-use native.Mathlib.Omega.{arith}
-use borrow.Author.Rules.{rules}
 use Rattle.row_tests.proofs.rule_ok.Goals as goal
 
 pub returns-then-words-at-gt16 : goal.returns-then-words-at-gt16

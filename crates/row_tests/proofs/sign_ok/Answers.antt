@@ -1,7 +1,5 @@
 -- `row_tests::sign_ok` meets its contract. Assumes nothing.
 use borrow.Author.Tests.{lt-leb, le-leb, eq-eqb, ne_eqb}
-use native.Mathlib.Omega.{arith}
-use borrow.Author.Rules.{rules}
 use Rattle.row_tests.proofs.sign_ok.Goals as goal
 
 pub returns-then-words-at-lt1 : goal.returns-then-words-at-lt1

@@ -1,8 +1,6 @@
 -- `row_tests::signal_ok` meets its contract. Assumes nothing.
 use Rattle.row_tests.specs.Flat.{good_signal}
-use borrow.Author.Tests.{le-ltb, lt-ltb, not-true, not-false}
-use native.Mathlib.Omega.{arith}
-use borrow.Author.Rules.{rules}
+use borrow.Author.Tests.{le-ltb, lt-ltb}
 use Rattle.row_tests.proofs.signal_ok.Goals as goal
 
 pub returns-then-words-at-ge2 : goal.returns-then-words-at-ge2

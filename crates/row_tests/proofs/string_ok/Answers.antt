@@ -1,7 +1,5 @@
 -- `row_tests::string_ok` meets its contract. Assumes nothing.
 use Rattle.row_tests.specs.Flat.{good_string}
-use native.Mathlib.Omega.{arith}
-use borrow.Author.Rules.{rules}
 use Rattle.row_tests.proofs.string_ok.Goals as goal
 
 pub returns : goal.returns

@@ -1,11 +1,8 @@
 -- `rows::find` meets its contract: the rows that are left decide the answer. Assumes nothing.
-use mathlib.Core.Path.{◌≡◌, refl, sym, ap, ◌∙◌}
-use Prim.Native.Nat.{ℕ, ◌+◌, ◌-◌, ◌*◌, ◌≤◌, ◌<◌, suc}
+use Prim.Native.Nat.{◌+◌, ◌-◌, ◌*◌, ◌≤◌}
 use native.Mathlib.Omega.{arith}
 use native.Mathlib.Nat.{sub-zero, zero-add}
-use mathlib.Core.List.{[], ◌∷◌}
-use lib.ListN.{length, get_or, drop}
-use Rattle.rows.specs.Rows.{numbers_at, index_of}
+use lib.ListN.{length}
 use Rattle.rows.proofs.RowLaws.{left_step, index_here, index_next, index_none}
 use Rattle.rows.proofs.find.Goals as goal
 
@@ -32,12 +29,11 @@ overflow_add-at c = let room : c.loop-i.at + c.args.w + (c.args.n - (c.loop-i.i 
 
 pub loop-i-preserved : goal.loop-i-preserved
 loop-i-preserved c = let room : c.loop-i.at + c.args.w + (c.args.n - (c.loop-i.i + 1)) * c.args.w
-    ≤ length c.args.t.now = omega (arith, left_step c.args.w c.args.n c.loop-i.i c.loop-i-test.true) in
-    (
-  omega arith,
-  room,
-  index_next _ _ _ _ _ _ _ c.loop-i.invariant.2 c.loop-i-test.true c.if-t-at.false,
-)
+    ≤ length c.args.t.now = omega (arith, left_step c.args.w c.args.n c.loop-i.i c.loop-i-test.true) in (
+      omega arith,
+      room,
+      index_next _ _ _ _ _ _ _ c.loop-i.invariant.2 c.loop-i-test.true c.if-t-at.false,
+    )
 
 pub returns : goal.returns
 returns c = index_none _ _ _ _ _ _ _ c.loop-i.invariant.2 c.loop-i-test.false

@@ -1,12 +1,8 @@
 -- `rows::find` meets its contract: the rows that are left decide the answer. Assumes nothing.
-use mathlib.Core.Path.{◌≡◌, refl, sym, ap, ◌∙◌}
-use Prim.Native.Nat.{ℕ, ◌+◌, ◌-◌, ◌*◌, ◌≤◌, ◌<◌, suc}
-use native.Mathlib.Omega.{arith}
-use native.Mathlib.Nat.{sub-zero, zero-add}
-use mathlib.Core.List.{[], ◌∷◌}
-use lib.ListN.{length, get_or, drop}
+use mathlib.Core.Path.{◌≡◌}
+use Prim.Native.Nat.{◌+◌, ◌-◌, ◌*◌, ◌≤◌}
+use lib.ListN.{length}
 use Rattle.rows.specs.Rows.{numbers_at, index_of}
-use Rattle.rows.proofs.RowLaws.{left_step, index_here, index_next, index_none}
 use Rattle.rows.proofs.find.Given as goal
 
 abbrev pub invariant-loop-i : goal.invariant-loop-i

@@ -2,7 +2,6 @@
 use mathlib.Core.Path.{◌∙◌}
 use native.Mathlib.Omega.{arith}
 use Rattle.rows.proofs.RowLaws.{got}
-use borrow.Author.Rules.{rules}
 use Rattle.rows.proofs.get.Goals as goal
 
 pub returns : goal.returns

@@ -1,11 +1,8 @@
 -- `rows::put` meets its contract: after j turns, the first j elements of the row are copied. Assumes nothing.
-use mathlib.Core.Path.{◌≡◌, refl, sym, ap, ◌∙◌}
-use Prim.Native.Nat.{◌+◌, ◌-◌, ◌≤◌}
-use native.Mathlib.Numerals.{add-one}
-use native.Mathlib.Omega.{arith}
-use lib.ListN.{length, length-set}
+use mathlib.Core.Path.{◌≡◌}
+use Prim.Native.Nat.{◌-◌, ◌≤◌}
+use lib.ListN.{length}
 use Rattle.rows.specs.Rows.{pasted}
-use Rattle.rows.proofs.RowLaws.{pasted_none, pasted_more}
 use Rattle.rows.proofs.put.Given as goal
 
 abbrev pub invariant-loop-j : goal.invariant-loop-j

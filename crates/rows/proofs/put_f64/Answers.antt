@@ -1,11 +1,8 @@
 -- `rows::put_f64` meets its contract: after j turns, the first j elements of the row are copied. Assumes nothing.
-use mathlib.Core.Path.{◌≡◌, refl, sym, ap, ◌∙◌}
-use Prim.Native.Nat.{◌+◌, ◌-◌, ◌≤◌}
-use native.Mathlib.Numerals.{add-one}
+use mathlib.Core.Path.{◌≡◌, refl, ◌∙◌}
 use native.Mathlib.Omega.{arith}
 use lib.Ieee.{nan}
 use lib.ListN.{length, length-set}
-use Rattle.rows.specs.Rows.{pasted}
 use Rattle.rows.proofs.RowLaws.{pasted_none, pasted_more}
 use Rattle.rows.proofs.put_f64.Goals as goal
 

@@ -1,12 +1,8 @@
 -- `rows::rising` meets its contract: the rows that are left decide the answer. Assumes nothing.
-use mathlib.Core.Path.{◌≡◌, refl, sym, ap, ◌∙◌}
-use Prim.Native.Nat.{ℕ, ◌+◌, ◌-◌, ◌*◌, ◌≤◌, ◌<◌, suc}
+use Prim.Native.Nat.{◌+◌, ◌-◌, ◌*◌, ◌≤◌}
 use native.Mathlib.Omega.{arith}
-use native.Mathlib.Nat.{sub-zero, zero-add}
-use mathlib.Core.List.{[], ◌∷◌}
-use lib.ListN.{length, get_or, drop}
-use Rattle.rows.specs.Table.{rising}
-use Rattle.rows.specs.Rows.{numbers_at}
+use native.Mathlib.Nat.{sub-zero}
+use lib.ListN.{length}
 use Rattle.rows.proofs.RowLaws.{left_step, rising_low, rising_high, rising_next, rising_end}
 use Rattle.rows.proofs.rising.Goals as goal
 
@@ -36,12 +32,11 @@ overflow_add-at c = let room : c.loop-i.at + c.args.w + (c.args.n - (c.loop-i.i 
 
 pub loop-i-preserved : goal.loop-i-preserved
 loop-i-preserved c = let room : c.loop-i.at + c.args.w + (c.args.n - (c.loop-i.i + 1)) * c.args.w
-    ≤ length c.args.t.now = omega (arith, left_step c.args.w c.args.n c.loop-i.i c.loop-i-test.true) in
-    (
-  omega arith,
-  room,
-  rising_next _ _ _ _ _ _ _ _ c.loop-i.invariant.2 c.loop-i-test.true c.if-x-low.false c.if-next-x.false,
-)
+    ≤ length c.args.t.now = omega (arith, left_step c.args.w c.args.n c.loop-i.i c.loop-i-test.true) in (
+      omega arith,
+      room,
+      rising_next _ _ _ _ _ _ _ _ c.loop-i.invariant.2 c.loop-i-test.true c.if-x-low.false c.if-next-x.false,
+    )
 
 pub returns : goal.returns
 returns c = rising_end _ _ _ _ _ _ _ _ c.loop-i.invariant.2 c.loop-i-test.false

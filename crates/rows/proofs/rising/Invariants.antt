@@ -1,13 +1,9 @@
 -- `rows::rising` meets its contract: the rows that are left decide the answer. Assumes nothing.
-use mathlib.Core.Path.{◌≡◌, refl, sym, ap, ◌∙◌}
-use Prim.Native.Nat.{ℕ, ◌+◌, ◌-◌, ◌*◌, ◌≤◌, ◌<◌, suc}
-use native.Mathlib.Omega.{arith}
-use native.Mathlib.Nat.{sub-zero, zero-add}
-use mathlib.Core.List.{[], ◌∷◌}
-use lib.ListN.{length, get_or, drop}
+use mathlib.Core.Path.{◌≡◌}
+use Prim.Native.Nat.{◌+◌, ◌-◌, ◌*◌, ◌≤◌}
+use lib.ListN.{length}
 use Rattle.rows.specs.Table.{rising}
 use Rattle.rows.specs.Rows.{numbers_at}
-use Rattle.rows.proofs.RowLaws.{left_step, rising_low, rising_high, rising_next, rising_end}
 use Rattle.rows.proofs.rising.Given as goal
 
 abbrev pub invariant-loop-i : goal.invariant-loop-i

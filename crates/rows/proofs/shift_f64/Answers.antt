@@ -1,12 +1,11 @@
 -- `rows::shift_f64` meets its contract: after j turns, the first j numbers are moved. Assumes nothing.
-use mathlib.Core.Path.{◌≡◌, refl, sym, ap, ◌∙◌}
-use Prim.Native.Nat.{◌+◌, ◌-◌, ◌≤◌, ◌<◌}
-use native.Mathlib.Numerals.{add-one}
+use mathlib.Core.Path.{◌≡◌, refl, sym, ◌∙◌}
+use Prim.Native.Nat.{◌+◌, ◌<◌}
 use native.Mathlib.Omega.{arith}
 use lib.Ieee.{nan}
 use lib.ListN.{length, get_or, drop, length-set, length-drop}
 use lib.Seq.{get_or-drop}
-use Rattle.rows.specs.Rows.{pasted, moved}
+use Rattle.rows.specs.Rows.{moved}
 use Rattle.rows.proofs.RowLaws.{pasted_none, pasted_more, get_d_past}
 use Rattle.rows.proofs.shift_f64.Goals as goal
 

@@ -1,13 +1,8 @@
 -- `rows::shift_f64` meets its contract: after j turns, the first j numbers are moved. Assumes nothing.
-use mathlib.Core.Path.{◌≡◌, refl, sym, ap, ◌∙◌}
-use Prim.Native.Nat.{◌+◌, ◌-◌, ◌≤◌, ◌<◌}
-use native.Mathlib.Numerals.{add-one}
-use native.Mathlib.Omega.{arith}
-use lib.Ieee.{nan}
-use lib.ListN.{length, get_or, drop, length-set, length-drop}
-use lib.Seq.{get_or-drop}
-use Rattle.rows.specs.Rows.{pasted, moved}
-use Rattle.rows.proofs.RowLaws.{pasted_none, pasted_more, get_d_past}
+use mathlib.Core.Path.{◌≡◌}
+use Prim.Native.Nat.{◌-◌, ◌≤◌}
+use lib.ListN.{length, drop}
+use Rattle.rows.specs.Rows.{pasted}
 use Rattle.rows.proofs.shift_f64.Given as goal
 
 abbrev pub invariant-loop-j : goal.invariant-loop-j

@@ -1,6 +1,5 @@
 -- `run_export::lane_map_run_calls` meets its contract. Assumes nothing.
 use Rattle.run_export.proofs.Laws.{run_done, run_refused, run_as}
-use borrow.Author.Rules.{rules}
 use Rattle.run_export.proofs.lane_map_run_calls.Goals as goal
 
 pub returns-in-Done : goal.returns-in-Done

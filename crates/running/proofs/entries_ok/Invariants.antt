@@ -1,6 +1,5 @@
 -- `running::entries_ok` meets its contract. Assumes nothing.
 use Rattle.running.proofs.TestLaws as L
-use borrow.Author.Rules.{rules}
 use Rattle.running.proofs.entries_ok.Given as goal
 
 abbrev pub invariant-loop-left : goal.invariant-loop-left

@@ -1,7 +1,6 @@
 -- `runs::run_calls` meets its contract. Assumes nothing.
 use mathlib.Core.List.{[]}
 use Rattle.runs.proofs.RowLaws.{run_refused, run_room, run_done}
-use borrow.Author.Rules.{rules}
 use Rattle.runs.proofs.run_calls.Goals as goal
 
 pub run_rows-requires : goal.run_rows-requires

@@ -2,7 +2,6 @@
 use mathlib.Core.List.{[]}
 use native.Mathlib.Omega.{arith}
 use Rattle.runs.proofs.OpenedLaws.{room_after, out_before, out_for_file, out_done}
-use borrow.Author.Rules.{rules}
 use Rattle.runs.proofs.run_opened.Goals as goal
 
 pub run_rows-tally-requires : goal.run_rows-tally-requires

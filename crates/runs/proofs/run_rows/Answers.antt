@@ -2,8 +2,7 @@
 use Prim.Native.Nat.{◌-◌}
 use native.Mathlib.Omega.{arith}
 use borrow.Author.Rules.{rules}
-use Rattle.call_list.proofs.Steps.{lent}
-use Rattle.runs.proofs.RowLaws.{Looping, first_row, next_row, last_row, row_words_lem}
+use Rattle.runs.proofs.RowLaws.{first_row, next_row, last_row, row_words_lem}
 use Rattle.runs.proofs.run_rows.Goals as goal
 
 pub loop-i-init : goal.loop-i-init

@@ -1,9 +1,7 @@
 -- `runs::run_rows` meets its contract: what is left to do at each row is what was left at the beginning. Assumes nothing.
 use Prim.Native.Nat.{◌-◌}
-use native.Mathlib.Omega.{arith}
-use borrow.Author.Rules.{rules}
 use Rattle.call_list.proofs.Steps.{lent}
-use Rattle.runs.proofs.RowLaws.{Looping, first_row, next_row, last_row, row_words_lem}
+use Rattle.runs.proofs.RowLaws.{Looping}
 use Rattle.runs.proofs.run_rows.Given as goal
 
 abbrev pub invariant-loop-i : goal.invariant-loop-i

@@ -1,5 +1,5 @@
 -- `sample_text::double_of` is safe: a pattern of at most that of infinity, but for the sign, is no NaN's. Assumes nothing.
-use Rattle.std.proofs.Common.{◌%◌, ◌^◌, rules, le-ltb}
+use Rattle.std.proofs.Common.{◌%◌, ◌^◌, le-ltb}
 use lib.Ieee.Bits.{nan_bits_above}
 use lib.Ieee.{binary64}
 use Rattle.sample_text.proofs.double_of.Goals as goal

@@ -1,5 +1,5 @@
 -- `sample_text::hex_at` is safe and ends: the text's end comes nearer. Assumes nothing.
-use Rattle.std.proofs.Common.{◌-◌, length, arith, rules}
+use Rattle.std.proofs.Common.{◌-◌, length}
 use Rattle.sample_text.proofs.hex_at.Given as goal
 
 abbrev pub invariant-loop-i : goal.invariant-loop-i

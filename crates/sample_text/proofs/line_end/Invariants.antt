@@ -1,5 +1,5 @@
 -- `sample_text::line_end` meets its contract: the text's end comes nearer. Assumes nothing.
-use Rattle.std.proofs.Common.{◌-◌, ◌≤◌, length, arith}
+use Rattle.std.proofs.Common.{◌-◌, ◌≤◌, length}
 use Rattle.sample_text.proofs.line_end.Given as goal
 
 abbrev pub invariant-loop-i : goal.invariant-loop-i

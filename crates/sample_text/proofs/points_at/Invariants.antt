@@ -1,5 +1,5 @@
 -- `sample_text::points_at` meets its contract: a store keeps the array's length. Assumes nothing.
-use Rattle.std.proofs.Common.{◌≡◌, ◌-◌, length, refl, arith, length-set, rules}
+use Rattle.std.proofs.Common.{◌≡◌, ◌-◌, length}
 use Rattle.sample_text.proofs.points_at.Given as goal
 
 abbrev pub invariant-loop-i : goal.invariant-loop-i

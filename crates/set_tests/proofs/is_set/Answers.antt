@@ -1,4 +1,6 @@
 -- `set_tests::is_set` meets its contract. Assumes nothing.
+use mathlib.Core.Bool.{not}
+use mathlib.Core.Path.{ap}
 use native.Mathlib.Omega.{arith}
 use Rattle.set_tests.proofs.SetLaws as L
 use borrow.Author.Rules.{rules}
@@ -8,7 +10,7 @@ pub returns-then-not-lists_ok : goal.returns-then-not-lists_ok
 returns-then-not-lists_ok c = search (rules, L.set-rules)
 
 pub bounds-t-3 : goal.bounds-t-3
-bounds-t-3 c = omega (arith, L.set_size _ _ c.lists_ok.ensures c.if-not-lists_ok.false)
+bounds-t-3 c = omega (arith, L.set_size _ _ c.lists_ok.ensures (ap not c.if-not-lists_ok.false))
 
 pub warnings_ok-requires : goal.warnings_ok-requires
 warnings_ok-requires c = search (rules, L.set-rules)

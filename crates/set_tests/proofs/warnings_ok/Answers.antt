@@ -1,6 +1,4 @@
 -- `set_tests::warnings_ok` meets its contract. Assumes nothing.
-use Rattle.changes.specs.Layout.{from_of, warnings_at}
-use Rattle.changes.specs.ChangeFile.{warnings}
 use Rattle.set_tests.proofs.SetLaws as L
 use borrow.Author.Rules.{rules}
 use Rattle.set_tests.proofs.warnings_ok.Goals as goal

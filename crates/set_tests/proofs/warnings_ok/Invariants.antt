@@ -2,7 +2,6 @@
 use Rattle.changes.specs.Layout.{from_of, warnings_at}
 use Rattle.changes.specs.ChangeFile.{warnings}
 use Rattle.set_tests.proofs.SetLaws as L
-use borrow.Author.Rules.{rules}
 use Rattle.set_tests.proofs.warnings_ok.Given as goal
 
 abbrev pub invariant-loop-left : goal.invariant-loop-left

@@ -1,8 +1,6 @@
 use Prim.Native.Nat.{◌-◌}
 use borrow.Author.Rules.{rules}
 use Rattle.setfile.proofs.LoadLaws as L
-use Rattle.fields.proofs.read_word.Reads as read-word-reads
-use Rattle.setfile.proofs.load_entry.Reads as load-entry-reads
 use Rattle.setfile.proofs.load_entries.Goals as goal
 
 pub read_word-q-requires : goal.read_word-q-requires

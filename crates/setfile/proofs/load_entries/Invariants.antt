@@ -1,8 +1,5 @@
 use Prim.Native.Nat.{◌-◌}
-use borrow.Author.Rules.{rules}
 use Rattle.setfile.proofs.LoadLaws as L
-use Rattle.fields.proofs.read_word.Reads as read-word-reads
-use Rattle.setfile.proofs.load_entry.Reads as load-entry-reads
 use Rattle.setfile.proofs.load_entries.Given as goal
 
 abbrev pub invariant-loop-i : goal.invariant-loop-i

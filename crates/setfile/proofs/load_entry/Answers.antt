@@ -1,6 +1,5 @@
 use Rattle.setfile.proofs.LoadLaws as L
 use borrow.Author.Rules.{rules}
-use Rattle.fields.proofs.read_word.Reads as read-word-reads
 use Rattle.setfile.proofs.load_entry.Goals as goal
 
 pub read_word-q-requires : goal.read_word-q-requires

@@ -1,7 +1,5 @@
 use Rattle.setfile.proofs.LoadLaws as L
 use borrow.Author.Rules.{rules}
-use Rattle.setfile.proofs.load_entries.Reads as load-entries-reads
-use Rattle.setfile.proofs.load_warnings.Reads as load-warnings-reads
 use Rattle.setfile.proofs.load_set.Goals as goal
 
 pub load_entries-modified-requires : goal.load_entries-modified-requires

@@ -1,8 +1,6 @@
 use Prim.Native.Nat.{◌-◌}
 use borrow.Author.Rules.{rules}
 use Rattle.setfile.proofs.LoadLaws as L
-use Rattle.fields.proofs.read_word.Reads as read-word-reads
-use Rattle.setfile.proofs.load_warning.Reads as load-warning-reads
 use Rattle.setfile.proofs.load_warnings.Goals as goal
 
 pub read_word-q-requires : goal.read_word-q-requires

@@ -1,8 +1,5 @@
 use Prim.Native.Nat.{◌-◌}
-use borrow.Author.Rules.{rules}
 use Rattle.setfile.proofs.LoadLaws as L
-use Rattle.fields.proofs.read_word.Reads as read-word-reads
-use Rattle.setfile.proofs.load_warning.Reads as load-warning-reads
 use Rattle.setfile.proofs.load_warnings.Given as goal
 
 abbrev pub invariant-loop-i : goal.invariant-loop-i

@@ -1,8 +1,5 @@
 use Prim.Native.Nat.{◌-◌}
-use borrow.Author.Rules.{rules}
 use Rattle.setfile.proofs.SetLaws as L
-use Rattle.putting.proofs.put_number.Reads as put-number-reads
-use Rattle.setfile.proofs.put_entry.Reads as put-entry-reads
 use Rattle.setfile.proofs.put_entries.Given as goal
 
 abbrev pub invariant-loop-i : goal.invariant-loop-i

@@ -1,6 +1,5 @@
 use Rattle.setfile.proofs.SetLaws as L
 use borrow.Author.Rules.{rules}
-use Rattle.putting.proofs.put_number.Reads as put-number-reads
 use Rattle.setfile.proofs.put_entry.Goals as goal
 
 pub offset_bounds-t-at : goal.offset_bounds-t-at

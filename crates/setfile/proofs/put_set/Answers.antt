@@ -1,8 +1,5 @@
 use Rattle.setfile.proofs.SetLaws as L
 use borrow.Author.Rules.{rules}
-use Rattle.rows.proofs.index.Reads as index_Reads
-use Rattle.setfile.proofs.put_entries.Reads as put-entries-reads
-use Rattle.setfile.proofs.put_warnings.Reads as put-warnings-reads
 use Rattle.setfile.proofs.put_set.Goals as goal
 
 pub bounds-t-0 : goal.bounds-t-0

@@ -1,8 +1,6 @@
 use Prim.Native.Nat.{◌-◌}
 use borrow.Author.Rules.{rules}
 use Rattle.setfile.proofs.SetLaws as L
-use Rattle.putting.proofs.put_number.Reads as put-number-reads
-use Rattle.setfile.proofs.put_warning.Reads as put-warning-reads
 use Rattle.setfile.proofs.put_warnings.Goals as goal
 
 pub put_number-q-requires : goal.put_number-q-requires

@@ -1,9 +1,7 @@
 -- `sets::fold` meets its contract. Assumes nothing.
 use mathlib.Core.Bool.{not}
 use mathlib.Core.Path.{ap}
-use native.Mathlib.Omega.{arith}
 use Rattle.sets.proofs.TableLaws as L
-use borrow.Author.Rules.{rules}
 use Rattle.sets.proofs.fold.Goals as goal
 
 pub returns-then-not-lists_ok : goal.returns-then-not-lists_ok

@@ -1,7 +1,6 @@
 -- `sets::fold_few` meets its contract. Assumes nothing.
 use native.Mathlib.Omega.{arith}
 use Rattle.sets.proofs.TableLaws as L
-use borrow.Author.Rules.{rules}
 use Rattle.sets.proofs.fold_few.Goals as goal
 
 pub fold_in-requires : goal.fold_in-requires

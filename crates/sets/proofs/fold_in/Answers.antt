@@ -1,7 +1,6 @@
 -- `sets::fold_in` meets its contract. Assumes nothing.
 use native.Mathlib.Omega.{arith}
 use Rattle.sets.proofs.TableLaws as L
-use borrow.Author.Rules.{rules}
 use Rattle.sets.proofs.fold_in.Goals as goal
 
 pub returns-then-n-gt-ENTRIES : goal.returns-then-n-gt-ENTRIES

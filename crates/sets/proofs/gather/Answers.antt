@@ -1,6 +1,5 @@
 -- `sets::gather` meets its contract. Assumes nothing.
 use Rattle.sets.proofs.TableLaws as L
-use borrow.Author.Rules.{rules}
 use Rattle.sets.proofs.gather.Goals as goal
 
 pub settle-requires : goal.settle-requires

@@ -1,6 +1,5 @@
 -- `sets::list_ok` meets its contract. Assumes nothing.
 use Rattle.sets.proofs.TableLaws as L
-use borrow.Author.Rules.{rules}
 use Rattle.sets.proofs.list_ok.Goals as goal
 
 pub returns : goal.returns

@@ -1,6 +1,5 @@
 -- `sets::store` meets its contract. Assumes nothing.
 use Rattle.sets.proofs.TableLaws as L
-use borrow.Author.Rules.{rules}
 use Rattle.sets.proofs.store.Goals as goal
 
 pub returns : goal.returns

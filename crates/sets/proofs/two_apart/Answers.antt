@@ -2,7 +2,6 @@
 use native.Mathlib.Omega.{arith}
 use Rattle.sets.proofs.SettleLaws as S
 use Rattle.sets.proofs.TableLaws as L
-use borrow.Author.Rules.{rules}
 use Rattle.sets.proofs.two_apart.Goals as goal
 
 pub overflow_mul-a : goal.overflow_mul-a

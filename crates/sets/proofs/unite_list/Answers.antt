@@ -1,7 +1,6 @@
 -- `sets::unite_list` meets its contract. Assumes nothing.
 use native.Mathlib.Omega.{arith}
 use Rattle.sets.proofs.SettleLaws as L
-use borrow.Author.Rules.{rules}
 use Rattle.sets.proofs.unite_list.Goals as goal
 
 pub overflow_mul-a : goal.overflow_mul-a

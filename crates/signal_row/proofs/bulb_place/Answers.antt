@@ -2,7 +2,6 @@
 use native.Mathlib.Omega.{arith}
 use Rattle.centerline.proofs.Made.{whole_fits}
 use Rattle.signal_row.proofs.RowLaws.{place_none, place_at_lem}
-use borrow.Author.Rules.{rules}
 use Rattle.signal_row.proofs.bulb_place.Goals as goal
 
 pub int_to_float-t : goal.int_to_float-t

@@ -1,6 +1,5 @@
 -- `signal_row::bulbs_of` meets its contract. Assumes nothing.
 use Rattle.signal_row.proofs.RowLaws.{bulbs_given, bulbs_standard}
-use borrow.Author.Rules.{rules}
 use Rattle.signal_row.proofs.bulbs_of.Goals as goal
 
 pub returns-then-asked : goal.returns-then-asked

@@ -1,10 +1,8 @@
 -- `signal_row::bulbs_on_map` meets its contract. Assumes nothing.
 use Prim.Native.Nat.{◌-◌}
 use mathlib.Core.Path.{◌≡◌}
-use lib.ListN.{length}
 use native.Mathlib.Omega.{arith}
-use borrow.Author.Rules.{rules}
-use Rattle.signal_row.proofs.StoredLaws.{Stand, stand_start, stand_end, stand_stop, stand_next, longs}
+use Rattle.signal_row.proofs.StoredLaws.{stand_start, stand_end, stand_stop, stand_next, longs}
 use Rattle.signal_row.proofs.bulbs_on_map.Goals as goal
 
 pub loop-i-init : goal.loop-i-init

@@ -1,6 +1,5 @@
 -- `signal_row::given_bulb` meets its contract. Assumes nothing.
 use Rattle.signal_row.proofs.RowLaws.{bulb_given}
-use borrow.Author.Rules.{rules}
 use Rattle.signal_row.proofs.given_bulb.Goals as goal
 
 pub returns : goal.returns

@@ -3,7 +3,6 @@ use mathlib.Core.Path.{◌≡◌}
 use lib.ListN.{length}
 use Rattle.signal_row.proofs.RowLaws.{lamps_read}
 use Rattle.signal_row.proofs.StoredLaws.{longs}
-use borrow.Author.Rules.{rules}
 use Rattle.signal_row.proofs.given_bulbs.Goals as goal
 
 pub returns : goal.returns

@@ -1,6 +1,5 @@
 -- `signal_row::height_of` meets its contract. Assumes nothing.
 use Rattle.signal_row.proofs.RowLaws.{height_standard, height_given_lem}
-use borrow.Author.Rules.{rules}
 use Rattle.signal_row.proofs.height_of.Goals as goal
 
 pub returns-in_default : goal.returns-in_default

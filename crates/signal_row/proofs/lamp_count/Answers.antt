@@ -1,7 +1,6 @@
 -- `signal_row::lamp_count` meets its contract. Assumes nothing.
 use mathlib.Core.Path.{refl}
 use Rattle.signal_row.proofs.RowLaws.{count_whole, count_more}
-use borrow.Author.Rules.{rules}
 use Rattle.signal_row.proofs.lamp_count.Goals as goal
 
 pub returns-then-n-eq0 : goal.returns-then-n-eq0

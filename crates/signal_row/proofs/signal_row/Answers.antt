@@ -2,7 +2,6 @@
 use mathlib.Core.Path.{◌≡◌, refl}
 use lib.ListN.{length}
 use Rattle.signal_row.proofs.StoredLaws.{row_made, longs}
-use borrow.Author.Rules.{rules}
 use Rattle.signal_row.proofs.signal_row.Goals as goal
 
 pub returns : goal.returns

@@ -1,6 +1,5 @@
 -- `signal_row::standard_bulbs` meets its contract. Assumes nothing.
 use Rattle.signal_row.proofs.RowLaws.{vehicle_bulbs, pedestrian_bulbs}
-use borrow.Author.Rules.{rules}
 use Rattle.signal_row.proofs.standard_bulbs.Goals as goal
 
 pub returns-in-Vehicle : goal.returns-in-Vehicle

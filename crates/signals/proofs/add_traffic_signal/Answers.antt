@@ -1,7 +1,6 @@
 -- `signals::add_traffic_signal` meets its contract. Assumes nothing.
 use Rattle.edit.specs.Request.{new_traffic_signal}
 use Rattle.signals.proofs.CarryLaws as K
-use borrow.Author.Rules.{rules}
 use Rattle.signals.proofs.add_traffic_signal.Goals as goal
 
 pub returns-in-Refused : goal.returns-in-Refused

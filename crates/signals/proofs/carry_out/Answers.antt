@@ -1,7 +1,6 @@
 -- `signals::carry_out` meets its contract. Assumes nothing.
 use native.Mathlib.Omega.{arith}
 use Rattle.signals.proofs.CarryLaws as K
-use borrow.Author.Rules.{rules}
 use Rattle.signals.proofs.carry_out.Goals as goal
 
 pub check_fold-settled-requires : goal.check_fold-settled-requires
@@ -17,10 +16,10 @@ draft_set-requires c = let asks = K.set_asks _ _ _ _ _ c.requires.0 c.args.q c.a
 
 pub take_in-requires : goal.take_in-requires
 take_in-requires c = (
-      (K.known _ _ _ _ _ c.requires.0).fold,
-      c.draft_set.ensures.room,
-      K.taken _ _ _ _ _ c.requires.0 c.args.q c.args.lanes.now c.args.points.now c.args.given.now c.args.lamps.now c.args.p c.requires.1 _ c.check_fold-settled.ensures c.in_default.is _ c.draft_set.ensures,
-    )
+  (K.known _ _ _ _ _ c.requires.0).fold,
+  c.draft_set.ensures.room,
+  K.taken _ _ _ _ _ c.requires.0 c.args.q c.args.lanes.now c.args.points.now c.args.given.now c.args.lamps.now c.args.p c.requires.1 _ c.check_fold-settled.ensures c.in_default.is _ c.draft_set.ensures,
+)
 
 pub store-requires : goal.store-requires
 store-requires c = K.store_needs _ _ _ _ _ c.requires.0 c.args.q c.args.lanes.now c.args.points.now c.args.given.now c.args.lamps.now c.args.p c.requires.1 _ c.check_fold-settled.ensures c.in_default.is

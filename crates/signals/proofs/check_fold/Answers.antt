@@ -1,6 +1,5 @@
 -- `signals::check_fold` meets its contract. Assumes nothing.
 use Rattle.signals.proofs.FoldLaws as K
-use borrow.Author.Rules.{rules}
 use Rattle.signals.proofs.check_fold.Goals as goal
 
 pub returns-then-fold_room : goal.returns-then-fold_room

@@ -1,6 +1,5 @@
 -- `signals::store` meets its contract. Assumes nothing.
 use Rattle.signals.proofs.SignalLaws.{store_asks, stored_as}
-use borrow.Author.Rules.{rules}
 use Rattle.signals.proofs.store.Goals as goal
 
 pub store_light-requires : goal.store_light-requires

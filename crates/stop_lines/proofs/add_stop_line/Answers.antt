@@ -4,7 +4,6 @@ use Rattle.place.proofs.LineLaws.{part_long}
 use Rattle.stop_lines.specs.Stop.{new_stop_line}
 use Rattle.stop_lines.proofs.PlanLaws as P
 use Rattle.stop_lines.proofs.CarryLaws as K
-use borrow.Author.Rules.{rules}
 use Rattle.stop_lines.proofs.add_stop_line.Goals as goal
 
 pub returns-in-Refused : goal.returns-in-Refused

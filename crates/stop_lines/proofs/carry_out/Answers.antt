@@ -1,7 +1,6 @@
 -- `stop_lines::carry_out` meets its contract. Assumes nothing.
 use native.Mathlib.Omega.{arith}
 use Rattle.stop_lines.proofs.CarryLaws as K
-use borrow.Author.Rules.{rules}
 use Rattle.stop_lines.proofs.carry_out.Goals as goal
 
 pub fresh-number-requires : goal.fresh-number-requires

@@ -1,5 +1,4 @@
 use Rattle.store.specs.Layout.{count_of}
-use borrow.Author.Rules.{rules}
 use Rattle.store.proofs.count.Goals as goal
 
 pub returns : goal.returns

@@ -1,8 +1,6 @@
-use Prim.Native.Nat.{◌+◌, ◌-◌, ◌*◌}
 use native.Mathlib.Omega.{arith}
 use Rattle.store.specs.Layout.{drop_coords}
 use Rattle.store.proofs.StoreLaws.{coords_end, drop_coords_fits}
-use borrow.Author.Rules.{rules}
 use Rattle.store.proofs.drop_coords.Goals as goal
 
 pub coord_place-at-requires : goal.coord_place-at-requires

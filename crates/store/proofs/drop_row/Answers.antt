@@ -1,8 +1,6 @@
-use Prim.Native.Nat.{◌+◌, ◌-◌, ◌*◌}
 use native.Mathlib.Omega.{arith}
 use Rattle.store.specs.Layout.{drop_row}
 use Rattle.store.proofs.StoreLaws.{row_ends, drop_fits}
-use borrow.Author.Rules.{rules}
 use Rattle.store.proofs.drop_row.Goals as goal
 
 pub place-at-requires : goal.place-at-requires

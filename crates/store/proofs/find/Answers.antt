@@ -1,8 +1,6 @@
-use Prim.Native.Nat.{ℕ}
 use mathlib.Core.Path.{◌∙◌}
 use native.Mathlib.Omega.{arith}
 use Rattle.store.proofs.StoreLaws.{wide, placed}
-use borrow.Author.Rules.{rules}
 use Rattle.store.proofs.find.Goals as goal
 
 pub find-requires : goal.find-requires

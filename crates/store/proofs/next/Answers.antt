@@ -1,6 +1,5 @@
 use mathlib.Core.Path.{refl}
 use Rattle.store.specs.Layout.{next_of}
-use borrow.Author.Rules.{rules}
 use Rattle.store.proofs.next.Goals as goal
 
 pub returns : goal.returns

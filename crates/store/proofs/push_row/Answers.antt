@@ -1,9 +1,7 @@
-use Prim.Native.Nat.{◌+◌}
 use mathlib.Core.Path.{ap}
 use native.Mathlib.Omega.{arith}
 use Rattle.store.specs.Layout.{count_of, place_of, push_row}
 use Rattle.store.proofs.StoreLaws.{limit_small, row_ends}
-use borrow.Author.Rules.{rules}
 use Rattle.store.proofs.push_row.Goals as goal
 
 pub put-requires : goal.put-requires

@@ -1,8 +1,6 @@
-use Prim.Native.Nat.{◌+◌}
 use native.Mathlib.Omega.{arith}
 use Rattle.store.specs.Layout.{put_coords}
 use Rattle.store.proofs.StoreLaws.{coords_end}
-use borrow.Author.Rules.{rules}
 use Rattle.store.proofs.put_coords.Goals as goal
 
 pub coord_place-requires : goal.coord_place-requires

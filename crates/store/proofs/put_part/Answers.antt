@@ -1,8 +1,6 @@
-use Prim.Native.Nat.{◌+◌}
 use native.Mathlib.Omega.{arith}
 use Rattle.store.specs.Layout.{put_part}
 use Rattle.store.proofs.StoreLaws.{row_ends}
-use borrow.Author.Rules.{rules}
 use Rattle.store.proofs.put_part.Goals as goal
 
 pub place-requires : goal.place-requires

@@ -1,6 +1,5 @@
 -- `tables_filled::add_line` meets its contract. Assumes nothing.
-use Rattle.std.proofs.Common.{sym, ◌∙◌, arith, rules}
-use borrow.Author.Tests.{not-false}
+use Rattle.std.proofs.Common.{sym, ◌∙◌, arith}
 use Rattle.map.proofs.SoundLaws.{sound}
 use Rattle.tables_filled.proofs.add_line.Goals as goal
 

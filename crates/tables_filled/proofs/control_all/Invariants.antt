@@ -1,5 +1,5 @@
 -- `tables_filled::control_all` meets its contract. Assumes nothing.
-use Rattle.std.proofs.Common.{◌≡◌, ◌-◌, ◌≤◌, length, rules}
+use Rattle.std.proofs.Common.{◌≡◌, ◌-◌, ◌≤◌, length}
 use Rattle.tables_filled.proofs.control_all.Given as goal
 
 abbrev pub invariant-loop-i : goal.invariant-loop-i

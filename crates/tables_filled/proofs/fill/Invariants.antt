@@ -1,5 +1,5 @@
 -- `tables_filled::fill` meets its contract. Assumes nothing.
-use Rattle.std.proofs.Common.{◌≡◌, ◌-◌, ◌≤◌, length, rules}
+use Rattle.std.proofs.Common.{◌≡◌, ◌-◌, ◌≤◌, length}
 use Rattle.tables_filled.proofs.fill.Given as goal
 
 abbrev pub invariant-loop-i : goal.invariant-loop-i

@@ -1,7 +1,6 @@
 -- `tables_filled::points` meets its contract. Assumes nothing.
 use Rattle.tables_filled.proofs.Guards as G
-use Rattle.std.proofs.Common.{sym, ◌∙◌, arith, rules}
-use borrow.Author.Tests.{not-false}
+use Rattle.std.proofs.Common.{sym, ◌∙◌, arith}
 use Rattle.validity.proofs.Whole.{map_few}
 use Rattle.tables_filled.proofs.points.Goals as goal
 

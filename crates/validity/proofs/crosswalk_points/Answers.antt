@@ -1,7 +1,6 @@
 -- `validity::crosswalk_points` meets its contract. Assumes nothing.
 use Rattle.row_tests.specs.Flat.{crosswalk_points}
 use native.Mathlib.Omega.{arith}
-use borrow.Author.Rules.{rules}
 use Rattle.validity.proofs.crosswalk_points.Goals as goal
 
 pub overflow_add-result-3 : goal.overflow_add-result-3

@@ -1,9 +1,7 @@
 -- `validity::is_map` meets its contract. Assumes nothing.
 use Rattle.validity.proofs.Whole.{other_words, other_coords, counts_sized, tables_few, bad_counts, bad_tables, then_points}
 use mathlib.Core.Path.{sym, ◌∙◌}
-use borrow.Author.Tests.{not-true, not-false}
 use native.Mathlib.Omega.{arith}
-use borrow.Author.Rules.{rules}
 use Rattle.validity.proofs.is_map.Goals as goal
 
 pub returns-then-words-ne-WORDS : goal.returns-then-words-ne-WORDS

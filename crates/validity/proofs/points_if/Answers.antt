@@ -1,7 +1,5 @@
 -- `validity::points_if` meets its contract. Assumes nothing.
 use borrow.Author.Tests.{eq-eqb, ne_eqb}
-use native.Mathlib.Omega.{arith}
-use borrow.Author.Rules.{rules}
 use Rattle.validity.proofs.points_if.Goals as goal
 
 pub returns-then-flag-eq0 : goal.returns-then-flag-eq0

@@ -2,10 +2,8 @@
 use Rattle.validity.proofs.Sums.{sum_none, sum_next, table_few, all_is}
 use Rattle.row_tests.specs.Flat.{table_points}
 use Prim.Native.Nat.{◌+◌, ◌-◌, ◌*◌, ◌≤◌}
-use mathlib.Core.Path.{◌≡◌, refl, sym, ap, ◌∙◌}
-use Rattle.rows.specs.Lists.{list_to, total}
+use mathlib.Core.Path.{◌≡◌, ◌∙◌}
 use native.Mathlib.Omega.{arith}
-use borrow.Author.Rules.{rules}
 use Rattle.validity.proofs.points_used.Goals as goal
 
 pub loop-k-init : goal.loop-k-init

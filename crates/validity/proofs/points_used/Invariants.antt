@@ -1,11 +1,8 @@
 -- `validity::points_used` meets its contract. Assumes nothing.
-use Rattle.validity.proofs.Sums.{sum_none, sum_next, table_few, all_is}
 use Rattle.row_tests.specs.Flat.{table_points}
 use Prim.Native.Nat.{◌+◌, ◌-◌, ◌*◌, ◌≤◌}
-use mathlib.Core.Path.{◌≡◌, refl, sym, ap, ◌∙◌}
+use mathlib.Core.Path.{◌≡◌, ◌∙◌}
 use Rattle.rows.specs.Lists.{list_to, total}
-use native.Mathlib.Omega.{arith}
-use borrow.Author.Rules.{rules}
 use Rattle.validity.proofs.points_used.Given as goal
 
 abbrev pub invariant-loop-k : goal.invariant-loop-k

@@ -2,7 +2,6 @@
 use Rattle.validity.proofs.Within.{in_lanes, in_boundaries, in_lines, in_signals, in_crosswalks, in_rules}
 use Rattle.validity.proofs.Within.{none}
 use native.Mathlib.Omega.{arith}
-use borrow.Author.Rules.{rules}
 use Rattle.validity.proofs.row_ok.Goals as goal
 
 pub overflow_mul-i : goal.overflow_mul-i

@@ -1,9 +1,7 @@
 -- `validity::row_points` meets its contract. Assumes nothing.
 use Rattle.validity.proofs.Within.{in_lanes, in_boundaries, in_lines, in_signals, in_crosswalks, in_rules}
 use Rattle.validity.proofs.Within.{none}
-use mathlib.Core.Path.{refl}
 use native.Mathlib.Omega.{arith}
-use borrow.Author.Rules.{rules}
 use Rattle.validity.proofs.row_points.Goals as goal
 
 pub overflow_mul-i : goal.overflow_mul-i

@@ -1,7 +1,5 @@
 -- `validity::sign_points` meets its contract. Assumes nothing.
 use borrow.Author.Tests.{eq-eqb, ne_eqb}
-use native.Mathlib.Omega.{arith}
-use borrow.Author.Rules.{rules}
 use Rattle.validity.proofs.sign_points.Goals as goal
 
 pub returns-then-kind-eq2 : goal.returns-then-kind-eq2

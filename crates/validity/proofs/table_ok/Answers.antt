@@ -1,10 +1,8 @@
 -- `validity::table_ok` meets its contract. Assumes nothing.
 use Rattle.row_tests.specs.Flat.{good_table, good_order}
 use Rattle.store.proofs.StoreLaws.{wide, placed}
-use borrow.Author.Tests.{not-true, not-false}
-use mathlib.Core.Path.{◌≡◌, sym, ◌∙◌}
+use mathlib.Core.Path.{◌≡◌, ◌∙◌}
 use native.Mathlib.Omega.{arith}
-use borrow.Author.Rules.{rules}
 use Rattle.validity.proofs.table_ok.Goals as goal
 
 pub rising-requires : goal.rising-requires

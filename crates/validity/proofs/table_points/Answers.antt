@@ -2,12 +2,9 @@
 use Rattle.validity.proofs.Sums.{sum_none, sum_next, table_is}
 use Rattle.row_tests.specs.Flat.{row_points}
 use Prim.Native.Nat.{◌+◌, ◌-◌, ◌*◌, ◌≤◌}
-use mathlib.Core.Path.{◌≡◌, refl, sym, ap, ◌∙◌}
-use Rattle.rows.specs.Lists.{list_to, total}
-use Rattle.store.specs.Layout.{count_of}
+use mathlib.Core.Path.{◌≡◌, ◌∙◌}
 use Rattle.store.proofs.StoreLaws.{limit_small}
 use native.Mathlib.Omega.{arith}
-use borrow.Author.Rules.{rules}
 use Rattle.validity.proofs.table_points.Goals as goal
 
 pub loop-i-init : goal.loop-i-init

@@ -1,13 +1,9 @@
 -- `validity::table_points` meets its contract. Assumes nothing.
-use Rattle.validity.proofs.Sums.{sum_none, sum_next, table_is}
 use Rattle.row_tests.specs.Flat.{row_points}
 use Prim.Native.Nat.{◌+◌, ◌-◌, ◌*◌, ◌≤◌}
-use mathlib.Core.Path.{◌≡◌, refl, sym, ap, ◌∙◌}
+use mathlib.Core.Path.{◌≡◌, ◌∙◌}
 use Rattle.rows.specs.Lists.{list_to, total}
 use Rattle.store.specs.Layout.{count_of}
-use Rattle.store.proofs.StoreLaws.{limit_small}
-use native.Mathlib.Omega.{arith}
-use borrow.Author.Rules.{rules}
 use Rattle.validity.proofs.table_points.Given as goal
 
 abbrev pub invariant-loop-i : goal.invariant-loop-i

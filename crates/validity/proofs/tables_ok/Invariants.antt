@@ -1,13 +1,9 @@
 -- `validity::tables_ok` meets its contract. Assumes nothing.
 use Rattle.row_tests.specs.Flat.{good_table, good_tables}
 use Prim.Native.Nat.{◌+◌, ◌-◌, ◌≤◌}
-use mathlib.Core.Path.{◌≡◌, refl, sym, ap, ◌∙◌}
-use Rattle.rows.specs.Lists.{every, list_to}
-use Rattle.rows.proofs.RowLaws.{every_next, every_stop, every_end}
-use Rattle.rows.proofs.Indexed.{tab, tab_step, tab_none, list_to_tab}
-use borrow.Author.Tests.{not-true, not-false}
-use native.Mathlib.Omega.{arith}
-use borrow.Author.Rules.{rules}
+use mathlib.Core.Path.{◌≡◌, ◌∙◌}
+use Rattle.rows.specs.Lists.{every}
+use Rattle.rows.proofs.Indexed.{tab}
 use Rattle.validity.proofs.tables_ok.Given as goal
 
 abbrev pub invariant-loop-k : goal.invariant-loop-k

@@ -1,10 +1,8 @@
 -- `centerline::measure::measure` meets its contract: the table is right up to point i. Assumes nothing.
-use Rattle.centerline.proofs.Measures.{Measuring, measuring_start, measuring_next, measured}
-use Rattle.polyline.proofs.Lines.{length-points}
+use Rattle.centerline.proofs.Measures.{Measuring}
 use Rattle.geometry.specs.Polyline.{polyline_of}
 use lib.ListN.{length}
 use Prim.Native.Nat.{◌-◌, ◌/◌}
-use native.Mathlib.Omega.{arith}
 use Rattle.centerline.proofs.measure.measure.Given as goal
 
 abbrev pub invariant-loop-i : goal.invariant-loop-i

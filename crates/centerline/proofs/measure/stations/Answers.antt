@@ -1,11 +1,8 @@
 -- `centerline::measure::stations` meets its contract: the values up to point i are the stations. Assumes nothing.
-use Rattle.centerline.proofs.Measures.{Stationed, stationed_start, stationed_next, stationed_end}
+use Rattle.centerline.proofs.Measures.{stationed_start, stationed_next, stationed_end}
 use Rattle.centerline.specs.Line.{stations_of}
 use Rattle.polyline.proofs.Lines.{length-points}
-use Rattle.geometry.specs.Polyline.{polyline_of}
-use lib.ListN.{length}
 use Prim.Native.Nat.{◌-◌, ◌/◌}
-use native.Mathlib.Omega.{arith}
 use Rattle.centerline.proofs.measure.stations.Goals as goal
 
 pub loop-i-init : goal.loop-i-init

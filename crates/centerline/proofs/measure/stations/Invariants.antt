@@ -1,11 +1,8 @@
 -- `centerline::measure::stations` meets its contract: the values up to point i are the stations. Assumes nothing.
-use Rattle.centerline.proofs.Measures.{Stationed, stationed_start, stationed_next, stationed_end}
-use Rattle.centerline.specs.Line.{stations_of}
-use Rattle.polyline.proofs.Lines.{length-points}
+use Rattle.centerline.proofs.Measures.{Stationed}
 use Rattle.geometry.specs.Polyline.{polyline_of}
 use lib.ListN.{length}
 use Prim.Native.Nat.{◌-◌, ◌/◌}
-use native.Mathlib.Omega.{arith}
 use Rattle.centerline.proofs.measure.stations.Given as goal
 
 abbrev pub invariant-loop-i : goal.invariant-loop-i

@@ -6,7 +6,6 @@ use lib.ListN.{length}
 use native.Mathlib.Omega.{arith}
 use mathlib.Core.Path.{◌≡◌, ◌∙◌}
 use Prim.Native.Nat.{◌<◌, ◌≤◌, max}
-use borrow.Author.Rules.{rules}
 use Rattle.centerline.proofs.middle.centerline.Goals as goal
 use Rattle.centerline.proofs.middle.centerline.Goals.{else-n-m, then-n-m}
 

@@ -1,12 +1,9 @@
 -- `centerline::middle::halfway` meets its contract: the array has the first i points. Assumes nothing.
-use Rattle.centerline.proofs.Arrays.{Filled, filled_none, filled_next}
+use Rattle.centerline.proofs.Arrays.{filled_none, filled_next}
 use Rattle.centerline.specs.Line.{points_of, halfway_to}
 use Rattle.geometry.specs.Polyline.{point_in}
-use Rattle.geometry.specs.Point.{lerp}
-use Rattle.geometry.specs.Double.{half}
 use mathlib.Core.Path.{◌≡◌, refl}
 use Prim.Native.Nat.{ℕ, ◌-◌, ◌≤◌}
-use borrow.Author.Rules.{rules}
 use native.Mathlib.Omega.{arith}
 use Rattle.centerline.proofs.middle.halfway.Goals as goal
 

@@ -1,7 +1,6 @@
 -- `centerline::middle::point_in` meets its contract. Assumes nothing.
 use Rattle.geometry.specs.Polyline.{point_in}
 use mathlib.Core.Path.{refl}
-use borrow.Author.Rules.{rules}
 use Rattle.centerline.proofs.middle.point_in.Goals as goal
 
 pub returns : goal.returns

@@ -3,7 +3,6 @@ use Rattle.centerline.proofs.Places.{located_start}
 use Rattle.polyline.proofs.Lines.{length-points, locate_one, locate_start}
 use mathlib.Core.Path.{◌∙◌}
 use native.Mathlib.Omega.{arith}
-use borrow.Author.Rules.{rules}
 use Rattle.centerline.proofs.resample.locate_from.Goals as goal
 
 pub returns-then-cs-eq1 : goal.returns-then-cs-eq1

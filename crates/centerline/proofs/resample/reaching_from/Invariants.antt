@@ -1,13 +1,9 @@
 -- `centerline::resample::reaching_from` meets its contract: no segment before i reaches the station. Assumes nothing.
-use Rattle.centerline.proofs.Places.{passed_next, located_here, located_end}
 use Rattle.centerline.specs.Line.{Passed}
-use Rattle.polyline.proofs.Lines.{length-points, reach_past}
 use Rattle.geometry.specs.Polyline.{polyline_of}
 use lib.ListN.{length}
-use mathlib.Core.Path.{◌≡◌, sym, ◌∙◌}
+use mathlib.Core.Path.{◌≡◌, ◌∙◌}
 use Prim.Native.Nat.{◌-◌, ◌/◌, ◌≤◌}
-use borrow.Author.Rules.{rules}
-use native.Mathlib.Omega.{arith}
 use Rattle.centerline.proofs.resample.reaching_from.Given as goal
 
 abbrev pub invariant-loop-i : goal.invariant-loop-i

@@ -6,7 +6,6 @@ use lib.ListN.{length}
 use native.Mathlib.Omega.{arith}
 use mathlib.Core.Path.{◌≡◌, sym, ◌∙◌}
 use Prim.Native.Nat.{◌<◌, ◌/◌, max}
-use borrow.Author.Rules.{rules}
 use Rattle.centerline.proofs.resample.resample_count.Goals as goal
 use Rattle.centerline.proofs.resample.resample_count.Goals.{else-n-lt2, then-n-lt2}
 

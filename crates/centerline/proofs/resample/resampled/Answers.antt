@@ -1,14 +1,12 @@
 -- `centerline::resample::resampled` meets its contract. The array has the first i points; no segment before `from` reaches the last station. Assumes nothing.
 use Rattle.centerline.proofs.Made.{whole_fits, total_is, resampled_at, resample_is}
 use Rattle.centerline.proofs.Places.{passed_none, resumed_passed, resumed_within}
-use Rattle.centerline.proofs.Arrays.{Filled, filled_none, filled_next}
-use Rattle.centerline.specs.Line.{points_of, Passed}
+use Rattle.centerline.proofs.Arrays.{filled_none, filled_next}
+use Rattle.centerline.specs.Line.{points_of}
 use Rattle.polyline.proofs.Lines.{length-points}
-use Rattle.geometry.specs.Polyline.{polyline_of, resampled}
-use lib.ListN.{length}
+use Rattle.geometry.specs.Polyline.{polyline_of}
 use mathlib.Core.Path.{◌≡◌, refl, ◌∙◌}
 use Prim.Native.Nat.{◌-◌, ◌/◌, ◌≤◌, ◌<◌}
-use borrow.Author.Rules.{rules}
 use native.Mathlib.Omega.{arith}
 use Rattle.centerline.proofs.resample.resampled.Goals as goal
 
@@ -28,13 +26,12 @@ pub point_of-p-requires : goal.point_of-p-requires
 point_of-p-requires c = c.requires.0
 
 pub loop-i-preserved : goal.loop-i-preserved
-loop-i-preserved c = let e = length-points c.args.cs.now in
-    (
-      omega arith,
-      omega (arith, c.locate_from-l.ensures.within),
-      c.locate_from-l.ensures.passed,
-      filled_next _ _ _ _ c.loop-i.invariant.3 (omega arith) (resampled_at _ _ _ _ _ _ _ (total_is _ _ _ c.requires.4 e c.requires.0) refl c.locate_from-l.ensures c.point_of-p.ensures),
-    )
+loop-i-preserved c = let e = length-points c.args.cs.now in (
+  omega arith,
+  omega (arith, c.locate_from-l.ensures.within),
+  c.locate_from-l.ensures.passed,
+  filled_next _ _ _ _ c.loop-i.invariant.3 (omega arith) (resampled_at _ _ _ _ _ _ _ (total_is _ _ _ c.requires.4 e c.requires.0) refl c.locate_from-l.ensures c.point_of-p.ensures),
+)
 
 pub returns : goal.returns
 unfolding points_of

@@ -1,15 +1,10 @@
 -- `centerline::resample::resampled` meets its contract. The array has the first i points; no segment before `from` reaches the last station. Assumes nothing.
-use Rattle.centerline.proofs.Made.{whole_fits, total_is, resampled_at, resample_is}
-use Rattle.centerline.proofs.Places.{passed_none, resumed_passed, resumed_within}
-use Rattle.centerline.proofs.Arrays.{Filled, filled_none, filled_next}
-use Rattle.centerline.specs.Line.{points_of, Passed}
-use Rattle.polyline.proofs.Lines.{length-points}
+use Rattle.centerline.proofs.Arrays.{Filled}
+use Rattle.centerline.specs.Line.{Passed}
 use Rattle.geometry.specs.Polyline.{polyline_of, resampled}
 use lib.ListN.{length}
-use mathlib.Core.Path.{◌≡◌, refl, ◌∙◌}
+use mathlib.Core.Path.{◌≡◌, ◌∙◌}
 use Prim.Native.Nat.{◌-◌, ◌/◌, ◌≤◌, ◌<◌}
-use borrow.Author.Rules.{rules}
-use native.Mathlib.Omega.{arith}
 use Rattle.centerline.proofs.resample.resampled.Given as goal
 
 abbrev pub invariant-loop-i : goal.invariant-loop-i

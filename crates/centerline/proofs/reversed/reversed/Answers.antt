@@ -1,9 +1,9 @@
 -- `centerline::reversed::reversed` meets its contract: the array has the last i points. Assumes nothing.
 use Rattle.centerline.proofs.Made.{reversed_is}
-use Rattle.centerline.proofs.Arrays.{Filled, filled_none, filled_next}
+use Rattle.centerline.proofs.Arrays.{filled_none, filled_next}
 use Rattle.centerline.specs.Line.{points_of}
 use Rattle.polyline.proofs.Lines.{length-points}
-use Rattle.geometry.specs.Polyline.{polyline_of, pt}
+use Rattle.geometry.specs.Polyline.{polyline_of}
 use lib.ListN.{length}
 use mathlib.Core.Path.{◌≡◌, refl, ◌∙◌}
 use Prim.Native.Nat.{ℕ, ◌-◌, ◌/◌, ◌≤◌}

@@ -1,13 +1,9 @@
 -- `centerline::reversed::reversed` meets its contract: the array has the last i points. Assumes nothing.
-use Rattle.centerline.proofs.Made.{reversed_is}
-use Rattle.centerline.proofs.Arrays.{Filled, filled_none, filled_next}
-use Rattle.centerline.specs.Line.{points_of}
-use Rattle.polyline.proofs.Lines.{length-points}
+use Rattle.centerline.proofs.Arrays.{Filled}
 use Rattle.geometry.specs.Polyline.{polyline_of, pt}
 use lib.ListN.{length}
-use mathlib.Core.Path.{◌≡◌, refl, ◌∙◌}
+use mathlib.Core.Path.{◌≡◌, ◌∙◌}
 use Prim.Native.Nat.{ℕ, ◌-◌, ◌/◌, ◌≤◌}
-use native.Mathlib.Omega.{arith}
 use Rattle.centerline.proofs.reversed.reversed.Given as goal
 
 abbrev pub invariant-loop-i : goal.invariant-loop-i

@@ -1,6 +1,4 @@
 -- `lists::are_apart` meets its contract. Assumes nothing.
-use Rattle.changes.specs.ChangeFile.{apart}
-use Rattle.changes.specs.Walk.{refs_to}
 use Prim.Native.Nat.{◌+◌}
 use Rattle.changes.proofs.MergeLaws as L
 use borrow.Author.Rules.{rules}

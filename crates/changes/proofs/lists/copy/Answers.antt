@@ -1,5 +1,4 @@
 -- `lists::copy` meets its contract. Assumes nothing.
-use Rattle.changes.specs.Walk.{refs_to}
 use Rattle.changes.proofs.MergeLaws as L
 use borrow.Author.Rules.{rules}
 use Rattle.changes.proofs.lists.copy.Goals as goal

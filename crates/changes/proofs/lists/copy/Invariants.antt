@@ -1,7 +1,6 @@
 -- `lists::copy` meets its contract. Assumes nothing.
 use Rattle.changes.specs.Walk.{refs_to}
 use Rattle.changes.proofs.MergeLaws as L
-use borrow.Author.Rules.{rules}
 use Rattle.changes.proofs.lists.copy.Given as goal
 
 abbrev pub invariant-loop-left : goal.invariant-loop-left

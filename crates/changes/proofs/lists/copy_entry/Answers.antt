@@ -3,7 +3,6 @@ use native.Mathlib.Omega.{arith}
 use lib.ListN.{length-set}
 use Rattle.changes.specs.Layout.{ref_at}
 use Rattle.changes.specs.Walk.{put_ref}
-use borrow.Author.Rules.{rules}
 use Rattle.changes.proofs.lists.copy_entry.Goals as goal
 
 -- src/lists.rt:62:5

@@ -1,6 +1,4 @@
 -- `lists::entries_ok` meets its contract. Assumes nothing.
-use Rattle.changes.specs.Layout.{refs_at}
-use Rattle.changes.specs.ChangeFile.{entries}
 use Rattle.changes.proofs.EntryLaws as L
 use borrow.Author.Rules.{rules}
 use Rattle.changes.proofs.lists.entries_ok.Goals as goal

@@ -2,7 +2,6 @@
 use Rattle.changes.specs.Layout.{refs_at}
 use Rattle.changes.specs.ChangeFile.{entries}
 use Rattle.changes.proofs.EntryLaws as L
-use borrow.Author.Rules.{rules}
 use Rattle.changes.proofs.lists.entries_ok.Given as goal
 
 abbrev pub invariant-loop-left : goal.invariant-loop-left

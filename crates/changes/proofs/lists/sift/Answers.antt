@@ -1,6 +1,4 @@
 -- `lists::sift` meets its contract. Assumes nothing.
-use Rattle.changes.specs.ChangeSet.{without}
-use Rattle.changes.specs.Walk.{refs_to}
 use Prim.Native.Nat.{◌+◌}
 use Rattle.changes.proofs.MergeLaws as L
 use borrow.Author.Rules.{rules}

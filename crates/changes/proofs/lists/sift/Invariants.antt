@@ -3,7 +3,6 @@ use Rattle.changes.specs.ChangeSet.{without}
 use Rattle.changes.specs.Walk.{refs_to}
 use Prim.Native.Nat.{◌+◌}
 use Rattle.changes.proofs.MergeLaws as L
-use borrow.Author.Rules.{rules}
 use Rattle.changes.proofs.lists.sift.Given as goal
 
 abbrev pub invariant-loop-left : goal.invariant-loop-left

@@ -1,7 +1,5 @@
 -- `lists::union` meets its contract. Assumes nothing.
-use Rattle.changes.specs.ChangeSet.{sort_refs}
 use mathlib.Core.List.{◌++◌}
-use Rattle.changes.specs.Walk.{refs_to}
 use Prim.Native.Nat.{◌+◌}
 use Rattle.changes.proofs.MergeLaws as L
 use borrow.Author.Rules.{rules}

@@ -4,7 +4,6 @@ use mathlib.Core.List.{◌++◌}
 use Rattle.changes.specs.Walk.{refs_to}
 use Prim.Native.Nat.{◌+◌}
 use Rattle.changes.proofs.MergeLaws as L
-use borrow.Author.Rules.{rules}
 use Rattle.changes.proofs.lists.union.Given as goal
 
 abbrev pub invariant-loop-left : goal.invariant-loop-left

@@ -1,6 +1,5 @@
 -- `geometry::double::on_map` meets its contract. Assumes nothing.
 use Rattle.geometry.specs.Double.{on_map}
-use borrow.Author.Rules.{rules}
 use Rattle.geometry.proofs.double.on_map.Goals as goal
 
 pub returns-then-is_finite : goal.returns-then-is_finite

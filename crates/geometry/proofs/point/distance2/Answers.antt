@@ -1,6 +1,5 @@
 -- `geometry::point::distance2` meets its contract. Assumes nothing.
 use Rattle.geometry.specs.Point.{distance2}
-use borrow.Author.Rules.{rules}
 use Rattle.geometry.proofs.point.distance2.Goals as goal
 
 pub returns : goal.returns

@@ -1,6 +1,5 @@
 -- `geometry::point::distance3` meets its contract. Assumes nothing.
 use Rattle.geometry.specs.Point.{distance3}
-use borrow.Author.Rules.{rules}
 use Rattle.geometry.proofs.point.distance3.Goals as goal
 
 pub returns : goal.returns

@@ -1,6 +1,5 @@
 -- `geometry::point::is_finite` meets its contract. Assumes nothing.
 use Rattle.geometry.specs.Point.{finite_point}
-use borrow.Author.Rules.{rules}
 use Rattle.geometry.proofs.point.is_finite.Goals as goal
 
 pub returns-then-is_finite-2 : goal.returns-then-is_finite-2

@@ -1,6 +1,5 @@
 -- `geometry::point::lerp` meets its contract. Assumes nothing.
 use Rattle.geometry.specs.Point.{lerp}
-use borrow.Author.Rules.{rules}
 use Rattle.geometry.proofs.point.lerp.Goals as goal
 
 pub returns : goal.returns

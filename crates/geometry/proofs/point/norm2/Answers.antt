@@ -1,6 +1,5 @@
 -- `geometry::point::norm2` meets its contract. Assumes nothing.
 use Rattle.geometry.specs.Point.{norm2}
-use borrow.Author.Rules.{rules}
 use Rattle.geometry.proofs.point.norm2.Goals as goal
 
 pub returns : goal.returns

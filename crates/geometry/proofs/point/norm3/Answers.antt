@@ -1,6 +1,5 @@
 -- `geometry::point::norm3` meets its contract. Assumes nothing.
 use Rattle.geometry.specs.Point.{norm3}
-use borrow.Author.Rules.{rules}
 use Rattle.geometry.proofs.point.norm3.Goals as goal
 
 pub returns : goal.returns

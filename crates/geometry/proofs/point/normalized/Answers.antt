@@ -1,6 +1,5 @@
 -- `geometry::point::normalized` meets its contract. Assumes nothing.
 use Rattle.geometry.specs.Point.{normalized}
-use borrow.Author.Rules.{rules}
 use Rattle.geometry.proofs.point.normalized.Goals as goal
 
 pub returns-then-n : goal.returns-then-n

@@ -1,6 +1,5 @@
 -- `geometry::point::on_map` meets its contract. Assumes nothing.
 use Rattle.geometry.specs.Point.{point_on_map}
-use borrow.Author.Rules.{rules}
 use Rattle.geometry.proofs.point.on_map.Goals as goal
 
 pub returns-then-on_map-2 : goal.returns-then-on_map-2

@@ -1,6 +1,5 @@
 -- `geometry::point::on_map2` meets its contract. Assumes nothing.
 use Rattle.geometry.specs.Point.{point2_on_map}
-use borrow.Author.Rules.{rules}
 use Rattle.geometry.proofs.point.on_map2.Goals as goal
 
 pub returns-then-on_map : goal.returns-then-on_map

@@ -1,6 +1,5 @@
 -- `geometry::point::project_on_segment` meets its contract. Assumes nothing.
 use Rattle.geometry.specs.Point.{project_on_segment}
-use borrow.Author.Rules.{rules}
 use Rattle.geometry.proofs.point.project_on_segment.Goals as goal
 
 pub returns-then-squared : goal.returns-then-squared

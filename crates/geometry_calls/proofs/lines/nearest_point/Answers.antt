@@ -10,7 +10,6 @@ use Rattle.geometry_calls.specs.Answers.{tested}
 use Rattle.refusal.specs.Answer.{done}
 use mathlib.Core.Bool.{◌&&◌}
 use mathlib.Core.Path.{◌≡◌, sym, ap, ap₂, ◌∙◌}
-use borrow.Author.Rules.{rules}
 use Rattle.geometry_calls.proofs.lines.nearest_point.Goals as goal
 
 pub returns-in-Refused : goal.returns-in-Refused

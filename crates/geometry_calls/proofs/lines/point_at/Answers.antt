@@ -4,7 +4,6 @@ use Rattle.geometry.specs.Calls.{point_at_call}
 use Rattle.geometry_calls.specs.Answers.{tested}
 use Rattle.refusal.specs.Answer.{done}
 use mathlib.Core.Path.{sym, ap, ◌∙◌}
-use borrow.Author.Rules.{rules}
 use Rattle.geometry_calls.proofs.lines.point_at.Goals as goal
 
 pub returns-in-Refused : goal.returns-in-Refused

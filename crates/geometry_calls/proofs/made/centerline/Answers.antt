@@ -11,7 +11,6 @@ use Rattle.refusal.specs.Answer.{done}
 use mathlib.Core.Bool.{◌&&◌}
 use mathlib.Core.Path.{◌≡◌, sym, ap, ap₂, ◌∙◌}
 use native.Mathlib.Omega.{arith}
-use borrow.Author.Rules.{rules}
 use Rattle.geometry_calls.proofs.made.centerline.Goals as goal
 
 pub centerline-requires : goal.centerline-requires

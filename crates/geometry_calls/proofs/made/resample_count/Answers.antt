@@ -10,7 +10,6 @@ use Rattle.geometry_calls.specs.Answers.{tested}
 use Rattle.refusal.specs.Answer.{done}
 use mathlib.Core.Path.{◌≡◌, sym, ap, ap₂, ◌∙◌}
 use native.Mathlib.Omega.{arith}
-use borrow.Author.Rules.{rules}
 use Rattle.geometry_calls.proofs.made.resample_count.Goals as goal
 
 pub resample_count-requires : goal.resample_count-requires

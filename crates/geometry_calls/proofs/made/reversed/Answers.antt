@@ -4,7 +4,6 @@ use Rattle.geometry.specs.Calls.{reversed_call}
 use Rattle.geometry_calls.specs.Answers.{tested}
 use Rattle.refusal.specs.Answer.{done}
 use mathlib.Core.Path.{sym, ap, ◌∙◌}
-use borrow.Author.Rules.{rules}
 use Rattle.geometry_calls.proofs.made.reversed.Goals as goal
 
 pub reversed-requires : goal.reversed-requires

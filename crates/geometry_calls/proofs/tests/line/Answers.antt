@@ -1,7 +1,6 @@
 -- `geometry_calls::tests::line` meets its contract. Assumes nothing.
 use Rattle.geometry_calls.proofs.Laws.{line_is}
 use mathlib.Core.Path.{◌∙◌}
-use borrow.Author.Rules.{rules}
 use Rattle.geometry_calls.proofs.tests.line.Goals as goal
 
 pub returns : goal.returns

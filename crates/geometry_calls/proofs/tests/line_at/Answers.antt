@@ -1,6 +1,5 @@
 -- `geometry_calls::tests::line_at` meets its contract. Assumes nothing.
 use Rattle.geometry_calls.specs.Tests.{check_line_at}
-use borrow.Author.Rules.{rules}
 use Rattle.geometry_calls.proofs.tests.line_at.Goals as goal
 
 pub returns : goal.returns

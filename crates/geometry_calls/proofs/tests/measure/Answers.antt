@@ -1,5 +1,4 @@
 -- `geometry_calls::tests::measure` meets its contract. Assumes nothing.
-use borrow.Author.Rules.{rules}
 use Rattle.geometry_calls.proofs.tests.measure.Goals as goal
 
 pub returns-then-is_finite : goal.returns-then-is_finite

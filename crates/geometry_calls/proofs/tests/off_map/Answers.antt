@@ -1,5 +1,4 @@
 -- `geometry_calls::tests::off_map` meets its contract. Assumes nothing.
-use borrow.Author.Rules.{rules}
 use Rattle.geometry_calls.proofs.tests.off_map.Goals as goal
 
 pub returns-else-ok : goal.returns-else-ok

@@ -1,7 +1,6 @@
 -- `geometry_calls::tests::plane` meets its contract. Assumes nothing.
 use Rattle.geometry.specs.Calls.{refuse_off_map}
 use mathlib.Core.Path.{ap, ◌∙◌}
-use borrow.Author.Rules.{rules}
 use Rattle.geometry_calls.proofs.tests.plane.Goals as goal
 
 pub returns : goal.returns

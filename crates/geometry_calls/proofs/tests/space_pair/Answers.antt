@@ -2,7 +2,6 @@
 use Rattle.geometry.specs.Calls.{refuse_off_map}
 use mathlib.Core.Bool.{◌&&◌}
 use mathlib.Core.Path.{ap, ap₂, ◌∙◌}
-use borrow.Author.Rules.{rules}
 use Rattle.geometry_calls.proofs.tests.space_pair.Goals as goal
 
 pub returns : goal.returns

@@ -2,7 +2,6 @@
 use Rattle.told.proofs.Laws.{always_of}
 use Rattle.geometry_export.specs.Lent.{flagged}
 use mathlib.Core.Path.{ap}
-use borrow.Author.Rules.{rules}
 use Rattle.geometry_export.proofs.lines.geometry_is_valid.Goals as goal
 
 pub returns : goal.returns

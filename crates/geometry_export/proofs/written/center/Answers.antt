@@ -2,7 +2,6 @@
 use mathlib.Core.Path.{refl}
 use borrow.Author.Tests.{eq-eqb, ne_eqb}
 use Rattle.centerline.specs.Line.{line_option}
-use borrow.Author.Rules.{rules}
 use Rattle.geometry_export.proofs.written.center.Goals as goal
 
 pub returns-then-l-eq0 : goal.returns-then-l-eq0

@@ -1,6 +1,5 @@
 -- `geometry_export::written::direction` meets its contract. Assumes nothing.
 use mathlib.Core.Path.{refl}
-use borrow.Author.Rules.{rules}
 use Rattle.geometry_export.proofs.written.direction.Goals as goal
 
 pub returns-in-Refused : goal.returns-in-Refused

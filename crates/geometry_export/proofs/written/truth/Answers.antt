@@ -1,7 +1,6 @@
 -- `geometry_export::written::truth` meets its contract. Assumes nothing.
 use mathlib.Core.Path.{refl}
 use Rattle.geometry_export.specs.Lent.{flagged}
-use borrow.Author.Rules.{rules}
 use Rattle.geometry_export.proofs.written.truth.Goals as goal
 
 pub returns-in-Refused : goal.returns-in-Refused

@@ -1,5 +1,5 @@
 -- `geometry_replay::lines::centerline_case` is safe: the points lie within the arrays. Assumes nothing.
-use Rattle.std.proofs.Common.{arith, length-take, rules}
+use Rattle.std.proofs.Common.{arith, length-take}
 use Rattle.geometry_replay.proofs.lines.centerline_case.Goals as goal
 
 pub slice_bounds-middle-end : goal.slice_bounds-middle-end

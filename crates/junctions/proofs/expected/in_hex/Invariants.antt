@@ -1,5 +1,5 @@
 -- `junctions::expected::in_hex` is safe and ends: fewer bytes are left. Assumes nothing.
-use Rattle.std.proofs.Common.{◌-◌, ◌≤◌, length, rules}
+use Rattle.std.proofs.Common.{◌-◌, ◌≤◌, length}
 use Rattle.junctions.proofs.expected.in_hex.Given as goal
 
 abbrev pub invariant-loop-i : goal.invariant-loop-i

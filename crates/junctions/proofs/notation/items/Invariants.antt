@@ -1,5 +1,4 @@
 -- `junctions::notation::items` is safe and ends: fewer are left. Assumes nothing.
-use Rattle.std.proofs.Common.{rules}
 use Rattle.junctions.proofs.notation.items.Given as goal
 
 abbrev pub invariant-loop-left : goal.invariant-loop-left

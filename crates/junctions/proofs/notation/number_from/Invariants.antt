@@ -1,5 +1,5 @@
 -- `junctions::notation::number_from` is safe and ends: the line's end comes nearer. Assumes nothing.
-use Rattle.std.proofs.Common.{◌-◌, length, rules}
+use Rattle.std.proofs.Common.{◌-◌, length}
 use Rattle.junctions.proofs.notation.number_from.Given as goal
 
 abbrev pub invariant-loop-i : goal.invariant-loop-i

@@ -1,8 +1,7 @@
 -- `lifting::apply::apply_lifts` meets its contract. Assumes nothing.
 use Prim.Native.Nat.{◌-◌}
-use native.Mathlib.Omega.{arith}
 use Rattle.store.specs.Layout.{count_of}
-use Rattle.lifting.proofs.ApplyLaws.{Applying, applying_start, applying_next, applying_end}
+use Rattle.lifting.proofs.ApplyLaws.{Applying}
 use Rattle.lifting.proofs.apply.apply_lifts.Given as goal
 
 abbrev pub invariant-loop-i : goal.invariant-loop-i

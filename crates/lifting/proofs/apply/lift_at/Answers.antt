@@ -2,7 +2,6 @@
 use native.Mathlib.Omega.{arith}
 use Rattle.lifting.proofs.GoneLaws.{rules_few}
 use Rattle.lifting.proofs.ApplyLaws.{put_asks, put_long, drop_asks, lifted_kept, lifted_eased, lifted_gone}
-use borrow.Author.Rules.{rules}
 use Rattle.lifting.proofs.apply.lift_at.Goals as goal
 
 pub lift_of-l-requires : goal.lift_of-l-requires

@@ -1,7 +1,6 @@
 -- `lifting::note::note_lift` meets its contract. Assumes nothing.
 use native.Mathlib.Omega.{arith}
 use Rattle.lifting.proofs.NoteLaws.{noted_none, noted_eased, noted_gone, warn_asks}
-use borrow.Author.Rules.{rules}
 use Rattle.lifting.proofs.note.note_lift.Goals as goal
 
 pub warn-requires : goal.warn-requires

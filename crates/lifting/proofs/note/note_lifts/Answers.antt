@@ -2,10 +2,8 @@
 use Prim.Native.Nat.{◌-◌}
 use mathlib.Core.Path.{◌≡◌}
 use native.Mathlib.Omega.{arith}
-use Rattle.store.specs.Layout.{count_of}
 use Rattle.lifting.proofs.GoneLaws.{rules_few}
-use Rattle.lifting.proofs.NoteLaws.{Noting, noting_start, one_fits, noting_next, noting_end, word_asks}
-use borrow.Author.Rules.{rules}
+use Rattle.lifting.proofs.NoteLaws.{noting_start, one_fits, noting_next, noting_end, word_asks}
 use Rattle.lifting.proofs.note.note_lifts.Goals as goal
 
 pub loop-i-init : goal.loop-i-init

@@ -1,11 +1,8 @@
 -- `lifting::note::note_lifts` meets its contract. Assumes nothing.
 use Prim.Native.Nat.{◌-◌}
 use mathlib.Core.Path.{◌≡◌}
-use native.Mathlib.Omega.{arith}
 use Rattle.store.specs.Layout.{count_of}
-use Rattle.lifting.proofs.GoneLaws.{rules_few}
-use Rattle.lifting.proofs.NoteLaws.{Noting, noting_start, one_fits, noting_next, noting_end, word_asks}
-use borrow.Author.Rules.{rules}
+use Rattle.lifting.proofs.NoteLaws.{Noting}
 use Rattle.lifting.proofs.note.note_lifts.Given as goal
 
 abbrev pub invariant-loop-i : goal.invariant-loop-i

@@ -2,7 +2,6 @@
 use mathlib.Core.Bool.{not}
 use native.Mathlib.Omega.{arith}
 use Rattle.light_room.proofs.TestLaws.{counts_are, one_few, count_few}
-use borrow.Author.Rules.{rules}
 use Rattle.light_room.proofs.tests.counts_fit.Goals as goal
 
 pub overflow_add-lines : goal.overflow_add-lines

@@ -1,5 +1,4 @@
 -- `light_room::tests::freed_by` meets its contract. Assumes nothing.
-use borrow.Author.Tests.{not-true, not-false}
 use Rattle.light_room.proofs.TestLaws.{freed_none, freed_some}
 use Rattle.light_room.proofs.tests.freed_by.Goals as goal
 

@@ -1,8 +1,6 @@
 -- `light_room::tests::joined_for` meets its contract. Assumes nothing.
 use mathlib.Core.Path.{refl}
-use borrow.Author.Tests.{not-true, not-false}
 use Rattle.light_room.proofs.TestLaws.{joined_none, joined_lost, joined_some, found_here}
-use borrow.Author.Rules.{rules}
 use Rattle.light_room.proofs.tests.joined_for.Goals as goal
 
 pub returns-then-not-joins : goal.returns-then-not-joins

@@ -1,7 +1,5 @@
 -- `light_room::tests::lamps_on` meets its contract. Assumes nothing.
-use borrow.Author.Tests.{not-true, not-false}
 use Rattle.light_room.proofs.TestLaws.{lamps_standard, lamps_short, lamps_whole}
-use borrow.Author.Rules.{rules}
 use Rattle.light_room.proofs.tests.lamps_on.Goals as goal
 
 pub bulbs_on_map-requires : goal.bulbs_on_map-requires

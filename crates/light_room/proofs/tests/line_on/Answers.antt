@@ -1,8 +1,6 @@
 -- `light_room::tests::line_on` meets its contract. Assumes nothing.
-use borrow.Author.Tests.{not-true, not-false}
 use Rattle.place.proofs.LineLaws.{part_long}
 use Rattle.light_room.proofs.TestLaws.{part_inside, part_thirds, line_left, line_tested}
-use borrow.Author.Rules.{rules}
 use Rattle.light_room.proofs.tests.line_on.Goals as goal
 
 pub returns-then-not-asked : goal.returns-then-not-asked

@@ -1,7 +1,5 @@
 -- `light_room::tests::lists_fit` meets its contract. Assumes nothing.
-use borrow.Author.Tests.{not-true, not-false}
 use Rattle.light_room.proofs.TestLaws.{signals_asks, lists_new, lists_lost, lists_group}
-use borrow.Author.Rules.{rules}
 use Rattle.light_room.proofs.tests.lists_fit.Goals as goal
 
 pub returns-then-not-joins : goal.returns-then-not-joins

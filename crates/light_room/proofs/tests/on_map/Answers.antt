@@ -1,6 +1,5 @@
 -- `light_room::tests::on_map` meets its contract. Assumes nothing.
 use Rattle.light_room.proofs.TestLaws.{all_on_map}
-use borrow.Author.Rules.{rules}
 use Rattle.light_room.proofs.tests.on_map.Goals as goal
 
 pub returns : goal.returns

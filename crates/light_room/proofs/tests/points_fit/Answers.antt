@@ -1,6 +1,5 @@
 -- `light_room::tests::points_fit` meets its contract. Assumes nothing.
 use Rattle.light_room.proofs.TestLaws.{points_are_few}
-use borrow.Author.Rules.{rules}
 use Rattle.light_room.proofs.tests.points_fit.Goals as goal
 
 pub returns : goal.returns

@@ -1,6 +1,5 @@
 -- `light_room::tests::points_of` meets its contract. Assumes nothing.
 use Rattle.light_room.proofs.TestLaws.{points_drawn, points_plain}
-use borrow.Author.Rules.{rules}
 use Rattle.light_room.proofs.tests.points_of.Goals as goal
 
 pub returns-then-drawn : goal.returns-then-drawn

@@ -1,6 +1,5 @@
 -- `light_room::tests::room` meets its contract. Assumes nothing.
 use Rattle.light_room.proofs.TestLaws.{room_is}
-use borrow.Author.Rules.{rules}
 use Rattle.light_room.proofs.tests.room.Goals as goal
 
 pub returns : goal.returns

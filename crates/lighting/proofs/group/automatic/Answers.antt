@@ -1,6 +1,5 @@
 -- `lighting::group::automatic` meets its contract. Assumes nothing.
 use Rattle.lighting.proofs.GroupLaws.{auto_group, auto_found, auto_new}
-use borrow.Author.Rules.{rules}
 use Rattle.lighting.proofs.group.automatic.Goals as goal
 
 pub returns-in-At : goal.returns-in-At

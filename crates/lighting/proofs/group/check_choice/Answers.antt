@@ -1,6 +1,5 @@
 -- `lighting::group::check_choice` meets its contract. Assumes nothing.
 use Rattle.lighting.proofs.GroupLaws.{choice_automatic, choice_new, choice_none, choice_existing}
-use borrow.Author.Rules.{rules}
 use Rattle.lighting.proofs.group.check_choice.Goals as goal
 
 pub returns-in-Automatic : goal.returns-in-Automatic

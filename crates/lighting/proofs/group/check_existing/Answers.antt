@@ -1,6 +1,5 @@
 -- `lighting::group::check_existing` meets its contract. Assumes nothing.
 use Rattle.lighting.proofs.GroupLaws.{existing_unknown, existing_free, existing_other, existing_same}
-use borrow.Author.Rules.{rules}
 use Rattle.lighting.proofs.group.check_existing.Goals as goal
 
 pub returns-in_default : goal.returns-in_default

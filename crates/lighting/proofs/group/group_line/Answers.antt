@@ -1,6 +1,5 @@
 -- `lighting::group::group_line` meets its contract. Assumes nothing.
 use Rattle.lighting.proofs.GroupLaws.{group_none, group_unknown, group_row, group_word, group_controls, group_other, group_light}
-use borrow.Author.Rules.{rules}
 use Rattle.lighting.proofs.group.group_line.Goals as goal
 
 pub returns-in_default : goal.returns-in_default

@@ -1,6 +1,5 @@
 -- `lighting::group::plan_for` meets its contract. Assumes nothing.
 use Rattle.lighting.proofs.GroupLaws.{plan_existing, plan_none, plan_new, plan_automatic}
-use borrow.Author.Rules.{rules}
 use Rattle.lighting.proofs.group.plan_for.Goals as goal
 
 pub returns-in-Existing : goal.returns-in-Existing

@@ -1,6 +1,5 @@
 -- `lighting::housings::direction_near` meets its contract. Assumes nothing.
 use Rattle.lighting.proofs.HousingLaws.{near_is}
-use borrow.Author.Rules.{rules}
 use Rattle.lighting.proofs.housings.direction_near.Goals as goal
 
 pub returns : goal.returns

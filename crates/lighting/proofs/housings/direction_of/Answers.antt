@@ -3,7 +3,6 @@ use native.Mathlib.Omega.{arith}
 use Rattle.geometry.specs.Polyline.{Polyline, direction_at}
 use Rattle.place.proofs.LineLaws.{part_long}
 use Rattle.lighting.proofs.HousingLaws.{of_line}
-use borrow.Author.Rules.{rules}
 use Rattle.lighting.proofs.housings.direction_of.Goals as goal
 
 pub slice_bounds-direction_at-end : goal.slice_bounds-direction_at-end

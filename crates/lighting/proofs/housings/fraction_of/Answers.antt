@@ -3,7 +3,6 @@ use native.Mathlib.Omega.{arith}
 use Rattle.geometry.specs.Polyline.{Polyline, point_at_fraction}
 use Rattle.place.proofs.LineLaws.{part_long}
 use Rattle.lighting.proofs.HousingLaws.{of_line}
-use borrow.Author.Rules.{rules}
 use Rattle.lighting.proofs.housings.fraction_of.Goals as goal
 
 pub slice_bounds-point_at_fraction-end : goal.slice_bounds-point_at_fraction-end

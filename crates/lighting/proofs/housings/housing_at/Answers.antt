@@ -1,7 +1,6 @@
 -- `lighting::housings::housing_at` meets its contract. Assumes nothing.
-use Rattle.geometry.specs.Point.{perp, scale2}
+use Rattle.geometry.specs.Point.{perp}
 use Rattle.edit.specs.Light.{housing_at}
-use borrow.Author.Rules.{rules}
 use Rattle.lighting.proofs.housings.housing_at.Goals as goal
 
 pub returns : goal.returns

@@ -1,6 +1,5 @@
 -- `lighting::housings::station_of` meets its contract. Assumes nothing.
 use Rattle.lighting.proofs.HousingLaws.{station_none, station_is}
-use borrow.Author.Rules.{rules}
 use Rattle.lighting.proofs.housings.station_of.Goals as goal
 
 pub returns-in_default : goal.returns-in_default

@@ -2,7 +2,6 @@
 use mathlib.Core.Path.{ap}
 use Rattle.lighting.specs.Plan.{asks_center}
 use Rattle.lighting.proofs.PlanLaws.{center_asked, center_line, anchor_used, anchor_end, anchor_drawn}
-use borrow.Author.Rules.{rules}
 use Rattle.lighting.proofs.plan.anchor_for.Goals as goal
 
 pub end_line-requires : goal.end_line-requires

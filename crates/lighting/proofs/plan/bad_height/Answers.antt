@@ -1,6 +1,5 @@
 -- `lighting::plan::bad_height` meets its contract. Assumes nothing.
 use Rattle.lighting.proofs.PlanLaws.{height_standard, height_infinite, height_is}
-use borrow.Author.Rules.{rules}
 use Rattle.lighting.proofs.plan.bad_height.Goals as goal
 
 pub returns-in_default : goal.returns-in_default

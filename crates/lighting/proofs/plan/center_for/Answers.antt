@@ -1,6 +1,5 @@
 -- `lighting::plan::center_for` meets its contract. Assumes nothing.
 use Rattle.lighting.proofs.PlanLaws.{center_needless}
-use borrow.Author.Rules.{rules}
 use Rattle.lighting.proofs.plan.center_for.Goals as goal
 
 pub returns-in-Use : goal.returns-in-Use

@@ -1,6 +1,5 @@
 -- `lighting::plan::check_housing` meets its contract. Assumes nothing.
 use Rattle.lighting.proofs.PlanLaws.{housing_checked, housing_unchecked}
-use borrow.Author.Rules.{rules}
 use Rattle.lighting.proofs.plan.check_housing.Goals as goal
 
 pub returns-then-given : goal.returns-then-given

@@ -1,7 +1,6 @@
 -- `lighting::plan::choose` meets its contract. Assumes nothing.
 use Rattle.placing.proofs.CheckLaws.{lanes_there}
 use Rattle.lighting.proofs.PlanLaws.{choose_lanes, choose_height, choose_shape, choose_group, choose_choice, choose_fine}
-use borrow.Author.Rules.{rules}
 use Rattle.lighting.proofs.plan.choose.Goals as goal
 
 pub returns-in-Refused : goal.returns-in-Refused

@@ -1,6 +1,5 @@
 -- `lighting::plan::light_plan` meets its contract. Assumes nothing.
 use Rattle.lighting.proofs.PlanLaws.{plan_refused, plan_is}
-use borrow.Author.Rules.{rules}
 use Rattle.lighting.proofs.plan.light_plan.Goals as goal
 
 pub returns-in-Refused : goal.returns-in-Refused

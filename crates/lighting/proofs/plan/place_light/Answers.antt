@@ -1,6 +1,5 @@
 -- `lighting::plan::place_light` meets its contract. Assumes nothing.
 use Rattle.lighting.proofs.PlanLaws.{center_anchor, light_is}
-use borrow.Author.Rules.{rules}
 use Rattle.lighting.proofs.plan.place_light.Goals as goal
 
 pub anchor_for-a-requires : goal.anchor_for-a-requires

@@ -1,6 +1,5 @@
 -- `lighting::plan::with_housing` meets its contract. Assumes nothing.
 use Rattle.lighting.proofs.PlanLaws.{anchored_refused, anchored_fine}
-use borrow.Author.Rules.{rules}
 use Rattle.lighting.proofs.plan.with_housing.Goals as goal
 
 pub returns-in-Refused : goal.returns-in-Refused

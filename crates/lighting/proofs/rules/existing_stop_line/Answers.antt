@@ -2,9 +2,7 @@
 use Prim.Native.Nat.{◌-◌}
 use mathlib.Core.Path.{◌≡◌}
 use native.Mathlib.Omega.{arith}
-use Rattle.store.specs.Layout.{count_of}
-use Rattle.lighting.proofs.RuleLaws.{Lineless, lineless_start, lineless_end, lineless_found, lineless_next}
-use borrow.Author.Rules.{rules}
+use Rattle.lighting.proofs.RuleLaws.{lineless_start, lineless_end, lineless_found, lineless_next}
 use Rattle.lighting.proofs.rules.existing_stop_line.Goals as goal
 
 pub loop-i-init : goal.loop-i-init

@@ -1,10 +1,8 @@
 -- `lighting::rules::existing_stop_line` meets its contract. Assumes nothing.
 use Prim.Native.Nat.{◌-◌}
 use mathlib.Core.Path.{◌≡◌}
-use native.Mathlib.Omega.{arith}
 use Rattle.store.specs.Layout.{count_of}
-use Rattle.lighting.proofs.RuleLaws.{Lineless, lineless_start, lineless_end, lineless_found, lineless_next}
-use borrow.Author.Rules.{rules}
+use Rattle.lighting.proofs.RuleLaws.{Lineless}
 use Rattle.lighting.proofs.rules.existing_stop_line.Given as goal
 
 abbrev pub invariant-loop-i : goal.invariant-loop-i

@@ -1,6 +1,5 @@
 -- `lighting::rules::line_on` meets its contract. Assumes nothing.
 use Rattle.lighting.proofs.RuleLaws.{rule_there, rule_lanes, line_listed, line_unlisted}
-use borrow.Author.Rules.{rules}
 use Rattle.lighting.proofs.rules.line_on.Goals as goal
 
 pub rule_list-requires : goal.rule_list-requires

@@ -1,6 +1,5 @@
 -- `lighting::rules::stops_at` meets its contract. Assumes nothing.
 use Rattle.lighting.proofs.RuleLaws.{with_line_lem, without_line, head_marking, head_light, head_sign, head_none}
-use borrow.Author.Rules.{rules}
 use Rattle.lighting.proofs.rules.stops_at.Goals as goal
 
 pub returns-then-h-eq3 : goal.returns-then-h-eq3

@@ -2,7 +2,6 @@
 use native.Mathlib.Omega.{arith}
 use mathlib.Core.Path.{sym, ◌∙◌}
 use Rattle.link_plan.proofs.PlanLaws.{below, light_checked, crossing_linked, crossing_fine, marking_linked, marking_moved, marking_fine, others_refused}
-use borrow.Author.Rules.{rules}
 use Rattle.link_plan.proofs.check.check_rule.Goals as goal
 
 pub rule_head-h-requires : goal.rule_head-h-requires

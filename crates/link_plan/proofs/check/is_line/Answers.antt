@@ -1,6 +1,5 @@
 -- `link_plan::check::is_line` meets its contract. Assumes nothing.
 use Rattle.link_plan.proofs.PlanLaws.{one_line, more_lines}
-use borrow.Author.Rules.{rules}
 use Rattle.link_plan.proofs.check.is_line.Goals as goal
 
 pub returns-then-lines-eq1 : goal.returns-then-lines-eq1

@@ -1,6 +1,5 @@
 -- `link_plan::put::links_put` meets its contract. Assumes nothing.
 use Rattle.link_plan.proofs.PutLaws.{lanes_ready, links_put}
-use borrow.Author.Rules.{rules}
 use Rattle.link_plan.proofs.put.links_put.Goals as goal
 
 pub put_list-requires-2 : goal.put_list-requires-2

@@ -1,7 +1,6 @@
 -- `link_plan::put::put_lines` meets its contract. Assumes nothing.
 use Rattle.link_plan.proofs.PlanLaws.{below}
 use Rattle.link_plan.proofs.PutLaws.{light_none, light_first, lines_ready, crossing_put, others_stay}
-use borrow.Author.Rules.{rules}
 use Rattle.link_plan.proofs.put.put_lines.Goals as goal
 
 pub rule_head-h-requires : goal.rule_head-h-requires

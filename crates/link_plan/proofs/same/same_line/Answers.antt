@@ -1,6 +1,5 @@
 -- `link_plan::same::same_line` meets its contract. Assumes nothing.
 use Rattle.link_plan.proofs.PlanLaws.{no_line, its_line_same, line_new}
-use borrow.Author.Rules.{rules}
 use Rattle.link_plan.proofs.same.same_line.Goals as goal
 
 pub returns-then-lines-eq0 : goal.returns-then-lines-eq0

@@ -3,7 +3,6 @@ use native.Mathlib.Omega.{arith}
 use mathlib.Core.Path.{sym, ◌∙◌}
 use Rattle.link_plan.proofs.PlanLaws.{below, light_same, crossing_same, others_same}
 use mathlib.Core.Bool.{true}
-use borrow.Author.Rules.{rules}
 use Rattle.link_plan.proofs.same.same_lines.Goals as goal
 
 pub rule_head-h-requires : goal.rule_head-h-requires

@@ -1,8 +1,6 @@
 -- `link_plan::same::same_links` meets its contract. Assumes nothing.
-use borrow.Author.Tests.{not-true, not-false}
 use native.Mathlib.Omega.{arith}
 use Rattle.link_plan.proofs.PlanLaws.{below, lanes_differ, crosswalks_differ, links_same}
-use borrow.Author.Rules.{rules}
 use Rattle.link_plan.proofs.same.same_links.Goals as goal
 
 pub rule_list-requires : goal.rule_list-requires

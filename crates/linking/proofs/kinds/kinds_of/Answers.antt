@@ -1,7 +1,6 @@
 -- `linking::kinds::kinds_of` meets its contract. Assumes nothing.
 use native.Mathlib.Omega.{arith}
-use Rattle.linking.proofs.KindLaws.{Reading, reading_start, reading_next, reading_end}
-use borrow.Author.Rules.{rules}
+use Rattle.linking.proofs.KindLaws.{reading_start, reading_next, reading_end}
 use Rattle.linking.proofs.kinds.kinds_of.Goals as goal
 
 pub loop-i-init : goal.loop-i-init

@@ -1,7 +1,5 @@
 -- `linking::kinds::kinds_of` meets its contract. Assumes nothing.
-use native.Mathlib.Omega.{arith}
-use Rattle.linking.proofs.KindLaws.{Reading, reading_start, reading_next, reading_end}
-use borrow.Author.Rules.{rules}
+use Rattle.linking.proofs.KindLaws.{Reading}
 use Rattle.linking.proofs.kinds.kinds_of.Given as goal
 
 abbrev pub invariant-loop-i : goal.invariant-loop-i

@@ -1,6 +1,5 @@
 -- `linking::kinds::with_signal` meets its contract. Assumes nothing.
 use Rattle.linking.proofs.KindLaws.{added_missing, word_asks, added_later, added_vehicle, added_pedestrian}
-use borrow.Author.Rules.{rules}
 use Rattle.linking.proofs.kinds.with_signal.Goals as goal
 
 pub returns-in_default : goal.returns-in_default

@@ -1,6 +1,5 @@
 -- `linking::light::check_light` meets its contract. Assumes nothing.
 use Rattle.linking.proofs.LightLaws.{light_dark, light_missing, light_kinds}
-use borrow.Author.Rules.{rules}
 use Rattle.linking.proofs.light.check_light.Goals as goal
 
 pub returns-then-signals-eq0 : goal.returns-then-signals-eq0

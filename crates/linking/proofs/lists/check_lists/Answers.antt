@@ -1,7 +1,5 @@
 -- `linking::lists::check_lists` meets its contract. Assumes nothing.
-use native.Mathlib.Omega.{arith}
 use Rattle.linking.proofs.ListLaws.{lists_twice, lists_lane, lists_crosswalk, lists_line, lists_fine}
-use borrow.Author.Rules.{rules}
 use Rattle.linking.proofs.lists.check_lists.Goals as goal
 
 pub returns-in-Refused : goal.returns-in-Refused

@@ -1,6 +1,5 @@
 -- `linking::lists::check_twice` meets its contract. Assumes nothing.
 use Rattle.linking.proofs.ListLaws.{twice_lanes, twice_crosswalks, twice_lines, twice_none}
-use borrow.Author.Rules.{rules}
 use Rattle.linking.proofs.lists.check_twice.Goals as goal
 
 pub returns-then-twice : goal.returns-then-twice

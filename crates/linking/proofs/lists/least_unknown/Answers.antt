@@ -1,7 +1,6 @@
 -- `linking::lists::least_unknown` meets its contract. Assumes nothing.
 use native.Mathlib.Omega.{arith}
-use Rattle.linking.proofs.ListLaws.{Least, least_start, least_next, least_end}
-use borrow.Author.Rules.{rules}
+use Rattle.linking.proofs.ListLaws.{least_start, least_next, least_end}
 use Rattle.linking.proofs.lists.least_unknown.Goals as goal
 
 pub loop-i-init : goal.loop-i-init

@@ -1,7 +1,5 @@
 -- `linking::lists::least_unknown` meets its contract. Assumes nothing.
-use native.Mathlib.Omega.{arith}
-use Rattle.linking.proofs.ListLaws.{Least, least_start, least_next, least_end}
-use borrow.Author.Rules.{rules}
+use Rattle.linking.proofs.ListLaws.{Least}
 use Rattle.linking.proofs.lists.least_unknown.Given as goal
 
 abbrev pub invariant-loop-i : goal.invariant-loop-i

@@ -1,6 +1,5 @@
 -- `linking::lists::less_if` meets its contract. Assumes nothing.
 use Rattle.linking.proofs.ListLaws.{less_known, less_unknown}
-use borrow.Author.Rules.{rules}
 use Rattle.linking.proofs.lists.less_if.Goals as goal
 
 pub returns-then-holds : goal.returns-then-holds

@@ -1,6 +1,5 @@
 -- `linking::lists::lesser` meets its contract. Assumes nothing.
 use Rattle.linking.proofs.ListLaws.{lesser_none, lesser_new, lesser_old}
-use borrow.Author.Rules.{rules}
 use Rattle.linking.proofs.lists.lesser.Goals as goal
 
 pub returns-in-Nothing : goal.returns-in-Nothing

@@ -1,6 +1,5 @@
 use Rattle.map.specs.Access.{index_in}
 use Rattle.map.proofs.ReadLaws.{find_at, find_none}
-use borrow.Author.Rules.{rules}
 use Rattle.map.proofs.lookup.find.Goals as goal
 
 pub returns-then-i-count : goal.returns-then-i-count

@@ -1,5 +1,4 @@
 use Rattle.map.proofs.ReadLaws.{has_lane, has_boundary, has_line_lem, has_signal, has_crosswalk, has_rule_lem, has_none}
-use borrow.Author.Rules.{rules}
 use Rattle.map.proofs.lookup.has.Goals as goal
 
 pub returns-in-1 : goal.returns-in-1

@@ -1,5 +1,4 @@
 use Rattle.map.specs.Access.{index_in}
-use borrow.Author.Rules.{rules}
 use Rattle.map.proofs.lookup.holds.Goals as goal
 
 pub returns : goal.returns

@@ -1,5 +1,4 @@
 use Rattle.map.proofs.ReadLaws.{lane_read}
-use borrow.Author.Rules.{rules}
 use Rattle.map.proofs.lookup.lane.Goals as goal
 
 pub returns : goal.returns

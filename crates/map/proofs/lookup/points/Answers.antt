@@ -3,7 +3,6 @@ use Rattle.store.proofs.StoreLaws.{coords_end}
 use Prim.Native.Nat.{ℕ, ◌+◌}
 use mathlib.Core.Path.{ap}
 use Rattle.map.proofs.ReadLaws.{points_part}
-use borrow.Author.Rules.{rules}
 use Rattle.map.proofs.lookup.points.Goals as goal
 
 pub overflow_add-at : goal.overflow_add-at

@@ -1,6 +1,5 @@
 use mathlib.Core.Path.{refl}
 use Rattle.map.proofs.ReadLaws.{list_value}
-use borrow.Author.Rules.{rules}
 use Rattle.map.proofs.lookup.rule_entries.Goals as goal
 
 pub returns : goal.returns

@@ -1,5 +1,4 @@
 use Rattle.map.proofs.ReadLaws.{head_read}
-use borrow.Author.Rules.{rules}
 use Rattle.map.proofs.lookup.rule_head.Goals as goal
 
 pub returns : goal.returns

@@ -1,7 +1,6 @@
 use mathlib.Core.Path.{refl}
 use native.Mathlib.Omega.{arith}
 use Rattle.map.proofs.ReadLaws.{list_part, list_room_lem}
-use borrow.Author.Rules.{rules}
 use Rattle.map.proofs.lookup.rule_list.Goals as goal
 
 pub overflow_add-e : goal.overflow_add-e

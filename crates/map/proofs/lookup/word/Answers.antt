@@ -1,10 +1,8 @@
 use native.Mathlib.Omega.{arith}
-use mathlib.Core.Path.{sym, ap, ◌∙◌}
+use mathlib.Core.Path.{sym, ◌∙◌}
 use Prim.Native.Nat.{ℕ, ◌+◌}
-use lib.ListN.{get_or}
 use Rattle.store.proofs.StoreLaws.{row_ends}
 use Rattle.map.proofs.ReadLaws.{get_or_row}
-use borrow.Author.Rules.{rules}
 use Rattle.map.proofs.lookup.word.Goals as goal
 
 pub overflow_add-result : goal.overflow_add-result

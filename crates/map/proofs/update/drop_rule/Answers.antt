@@ -1,6 +1,5 @@
 use native.Mathlib.Omega.{arith}
-use Rattle.map.proofs.UpdateLaws.{rule_limit, rule_dropped}
-use borrow.Author.Rules.{rules}
+use Rattle.map.proofs.UpdateLaws.{rule_dropped}
 use Rattle.map.proofs.update.drop_rule.Goals as goal
 
 pub drop_coords-requires : goal.drop_coords-requires

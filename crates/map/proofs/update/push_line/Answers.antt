@@ -2,7 +2,6 @@ use mathlib.Core.Path.{sym}
 use Rattle.map.proofs.UpdateLaws.{push_sized, line_wide, line_pushed}
 use native.Mathlib.Omega.{arith}
 use Rattle.map.proofs.UpdateLaws.{line_limit, line_room}
-use borrow.Author.Rules.{rules}
 use Rattle.map.proofs.update.push_line.Goals as goal
 
 pub put_coords-requires : goal.put_coords-requires

@@ -1,8 +1,6 @@
-use mathlib.Core.Path.{refl, sym, ap, ◌∙◌}
-use lib.ListN.{length}
+use mathlib.Core.Path.{refl, ◌∙◌}
 use native.Mathlib.Omega.{arith}
-use Rattle.map.proofs.UpdateLaws.{push_sized, rule_wide, rule_limit, row_long_is, rule_pushed_is}
-use borrow.Author.Rules.{rules}
+use Rattle.map.proofs.UpdateLaws.{push_sized, rule_limit, row_long_is, rule_pushed_is}
 use Rattle.map.proofs.update.push_rule.Goals as goal
 
 pub push_row-requires : goal.push_row-requires

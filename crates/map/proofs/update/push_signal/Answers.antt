@@ -1,7 +1,6 @@
 use mathlib.Core.Path.{sym, ◌∙◌}
 use native.Mathlib.Omega.{arith}
 use Rattle.map.proofs.UpdateLaws.{push_sized, signal_wide, signal_limit, signal_room, housing_long, signal_pushed}
-use borrow.Author.Rules.{rules}
 use Rattle.map.proofs.update.push_signal.Goals as goal
 
 pub put_coords-requires : goal.put_coords-requires
@@ -9,11 +8,11 @@ put_coords-requires c = (c.requires.0.coords, omega arith, omega (arith, signal_
 
 pub put_coords-requires-2 : goal.put_coords-requires-2
 put_coords-requires-2 c = (
-      housing_long c.args.coords.now c.requires.0.coords c.count-n.result (omega (arith, c.count-n.ensures, c.requires.1)) c.args.points.now c.requires.7 _ c.put_coords.ensures,
-      omega arith,
-      omega (arith, signal_limit, c.count-n.ensures, c.requires.1),
-      omega (arith, signal_room, c.requires.8),
-    )
+  housing_long c.args.coords.now c.requires.0.coords c.count-n.result (omega (arith, c.count-n.ensures, c.requires.1)) c.args.points.now c.requires.7 _ c.put_coords.ensures,
+  omega arith,
+  omega (arith, signal_limit, c.count-n.ensures, c.requires.1),
+  omega (arith, signal_room, c.requires.8),
+)
 
 pub push_row-requires : goal.push_row-requires
 push_row-requires c = (c.requires.0.words, omega arith, omega (arith, signal_limit, c.requires.1), c.requires.3 ∙ sym signal_wide)

@@ -1,7 +1,6 @@
 -- `map::update::put_line` meets its contract. Assumes nothing.
 use native.Mathlib.Omega.{arith}
 use Rattle.map.proofs.UpdateLaws.{rule_wide, line_put}
-use borrow.Author.Rules.{rules}
 use Rattle.map.proofs.update.put_line.Goals as goal
 
 pub put_part-requires : goal.put_part-requires

@@ -2,7 +2,6 @@
 use Rattle.map.proofs.UpdateLaws.{count_ready}
 use native.Mathlib.Omega.{arith}
 use Rattle.map.proofs.UpdateLaws.{rule_wide, list_put}
-use borrow.Author.Rules.{rules}
 use Rattle.map.proofs.update.put_list.Goals as goal
 
 pub put_part-requires : goal.put_part-requires

@@ -1,5 +1,5 @@
 -- `place::lines::between` meets its contract. Assumes nothing.
-use mathlib.Core.Path.{◌≡◌, refl}
+use mathlib.Core.Path.{◌≡◌}
 use lib.ListN.{length}
 use native.Mathlib.Omega.{arith}
 use Rattle.place.proofs.LineLaws.{part_long, no_left, no_right, sides_few, between_made}

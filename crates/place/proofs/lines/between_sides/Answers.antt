@@ -1,6 +1,5 @@
 -- `place::lines::between_sides` meets its contract. Assumes nothing.
 use Rattle.place.proofs.LineLaws.{along_sides}
-use borrow.Author.Rules.{rules}
 use Rattle.place.proofs.lines.between_sides.Goals as goal
 
 pub returns : goal.returns

@@ -1,6 +1,5 @@
 -- `place::lines::between_turned` meets its contract. Assumes nothing.
 use Rattle.place.proofs.LineLaws.{turned_made}
-use borrow.Author.Rules.{rules}
 use Rattle.place.proofs.lines.between_turned.Goals as goal
 
 pub between-requires : goal.between-requires

@@ -3,7 +3,6 @@ use mathlib.Core.Path.{◌≡◌, refl}
 use Rattle.centerline.specs.Line.{points_of}
 use native.Mathlib.Omega.{arith}
 use Rattle.place.proofs.LineLaws.{part_long, copy_room, copy_is}
-use borrow.Author.Rules.{rules}
 use Rattle.place.proofs.lines.copied.Goals as goal
 
 pub slice_bounds-put_f64-end-2 : goal.slice_bounds-put_f64-end-2

@@ -1,7 +1,6 @@
 -- `place::lines::lane_centerline` meets its contract. Assumes nothing.
-use mathlib.Core.Path.{◌≡◌, refl}
+use mathlib.Core.Path.{◌≡◌}
 use lib.ListN.{length}
-use native.Mathlib.Omega.{arith}
 use Rattle.place.proofs.LineLaws.{no_lane, lane_row, stored_points, stored_part, stored_line, made_line}
 use borrow.Author.Rules.{rules}
 use Rattle.place.proofs.lines.lane_centerline.Goals as goal

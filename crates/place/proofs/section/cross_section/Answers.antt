@@ -1,6 +1,5 @@
 -- `place::section::cross_section` meets its contract. Assumes nothing.
 use Rattle.place.proofs.SectionLaws.{on_nothing, no_direction, no_boundary, section_is}
-use borrow.Author.Rules.{rules}
 use Rattle.place.proofs.section.cross_section.Goals as goal
 
 pub returns-in_default : goal.returns-in_default

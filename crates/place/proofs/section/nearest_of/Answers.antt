@@ -2,7 +2,6 @@
 use native.Mathlib.Omega.{arith}
 use Rattle.place.proofs.LineLaws.{part_long}
 use Rattle.place.proofs.SectionLaws.{nearest_is}
-use borrow.Author.Rules.{rules}
 use Rattle.place.proofs.section.nearest_of.Goals as goal
 
 pub overflow_mul-e : goal.overflow_mul-e

@@ -1,6 +1,5 @@
 -- `place::section::side_of` meets its contract. Assumes nothing.
 use Rattle.place.proofs.SectionLaws.{side_left, side_right}
-use borrow.Author.Rules.{rules}
 use Rattle.place.proofs.section.side_of.Goals as goal
 
 pub returns-then-k-eq0 : goal.returns-then-k-eq0

@@ -1,7 +1,6 @@
 -- `place::section::with_lane` meets its contract. Assumes nothing.
 use Rattle.place.proofs.LineLaws.{lane_row}
 use Rattle.place.proofs.SectionLaws.{lane_missing, lane_sides}
-use borrow.Author.Rules.{rules}
 use Rattle.place.proofs.section.with_lane.Goals as goal
 
 pub returns-in_default : goal.returns-in_default

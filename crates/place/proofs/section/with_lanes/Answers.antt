@@ -1,11 +1,7 @@
 -- `place::section::with_lanes` meets its contract. Assumes nothing.
 use Prim.Native.Nat.{◌-◌}
-use lib.ListN.{length}
 use native.Mathlib.Omega.{arith}
-use Rattle.map.specs.Tables.{map_of}
-use Rattle.place.specs.Values.{ends_of}
-use Rattle.place.proofs.SectionLaws.{Laning, laning_start, laning_end, laning_missing, laning_next}
-use borrow.Author.Rules.{rules}
+use Rattle.place.proofs.SectionLaws.{laning_start, laning_end, laning_missing, laning_next}
 use Rattle.place.proofs.section.with_lanes.Goals as goal
 
 pub loop-i-init : goal.loop-i-init

@@ -1,11 +1,9 @@
 -- `place::section::with_lanes` meets its contract. Assumes nothing.
 use Prim.Native.Nat.{◌-◌}
 use lib.ListN.{length}
-use native.Mathlib.Omega.{arith}
 use Rattle.map.specs.Tables.{map_of}
 use Rattle.place.specs.Values.{ends_of}
-use Rattle.place.proofs.SectionLaws.{Laning, laning_start, laning_end, laning_missing, laning_next}
-use borrow.Author.Rules.{rules}
+use Rattle.place.proofs.SectionLaws.{Laning}
 use Rattle.place.proofs.section.with_lanes.Given as goal
 
 abbrev pub invariant-loop-i : goal.invariant-loop-i

@@ -1,9 +1,7 @@
 -- `place::section::with_sides` meets its contract. Assumes nothing.
 use Prim.Native.Nat.{◌-◌}
 use native.Mathlib.Omega.{arith}
-use Rattle.map.specs.Tables.{map_of}
-use Rattle.place.specs.Values.{ends_of}
-use Rattle.place.proofs.SectionLaws.{Siding, siding_start, siding_end, siding_missing, siding_past, siding_taken}
+use Rattle.place.proofs.SectionLaws.{siding_start, siding_end, siding_missing, siding_past, siding_taken}
 use borrow.Author.Rules.{rules}
 use Rattle.place.proofs.section.with_sides.Goals as goal
 

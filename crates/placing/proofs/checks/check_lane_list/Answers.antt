@@ -1,6 +1,5 @@
 -- `placing::checks::check_lane_list` meets its contract. Assumes nothing.
 use Rattle.placing.proofs.CheckLaws.{lanes_none, lanes_unknown, lanes_twice, lanes_fine}
-use borrow.Author.Rules.{rules}
 use Rattle.placing.proofs.checks.check_lane_list.Goals as goal
 
 pub returns-then-lanes-eq0 : goal.returns-then-lanes-eq0

@@ -2,7 +2,6 @@
 use mathlib.Core.Bool.{not}
 use mathlib.Core.Path.{ap}
 use Rattle.placing.proofs.CheckLaws.{shape_lacks, shape_infinite, shape_off, shape_many, shape_short, shape_fine}
-use borrow.Author.Rules.{rules}
 use Rattle.placing.proofs.checks.check_polyline.Goals as goal
 
 pub returns-then-cs-ne0 : goal.returns-then-cs-ne0

@@ -2,12 +2,9 @@
 use mathlib.Core.Bool.{not}
 use mathlib.Core.Path.{ap}
 use Prim.Native.Nat.{◌-◌}
-use lib.ListN.{length}
-use lib.Ieee.{nan}
 use native.Mathlib.Omega.{arith}
 use Rattle.geometry.specs.Double.{on_map}
-use Rattle.placing.proofs.WalkLaws.{Every, every_start, every_end, every_out, every_next}
-use borrow.Author.Rules.{rules}
+use Rattle.placing.proofs.WalkLaws.{every_start, every_end, every_out, every_next}
 use Rattle.placing.proofs.lists.all_on_map.Goals as goal
 
 pub loop-i-init : goal.loop-i-init

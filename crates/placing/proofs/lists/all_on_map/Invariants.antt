@@ -2,10 +2,8 @@
 use Prim.Native.Nat.{◌-◌}
 use lib.ListN.{length}
 use lib.Ieee.{nan}
-use native.Mathlib.Omega.{arith}
 use Rattle.geometry.specs.Double.{on_map}
-use Rattle.placing.proofs.WalkLaws.{Every, every_start, every_end, every_out, every_next}
-use borrow.Author.Rules.{rules}
+use Rattle.placing.proofs.WalkLaws.{Every}
 use Rattle.placing.proofs.lists.all_on_map.Given as goal
 
 abbrev pub invariant-loop-i : goal.invariant-loop-i

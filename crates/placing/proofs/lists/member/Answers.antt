@@ -1,9 +1,7 @@
 -- `placing::lists::member` meets its contract. Assumes nothing.
 use Prim.Native.Nat.{◌-◌}
-use lib.ListN.{length}
 use native.Mathlib.Omega.{arith}
-use Rattle.placing.proofs.WalkLaws.{Sought, sought_start, sought_end, sought_here, sought_next}
-use borrow.Author.Rules.{rules}
+use Rattle.placing.proofs.WalkLaws.{sought_start, sought_end, sought_here, sought_next}
 use Rattle.placing.proofs.lists.member.Goals as goal
 
 pub loop-i-init : goal.loop-i-init

@@ -1,9 +1,7 @@
 -- `placing::lists::member` meets its contract. Assumes nothing.
 use Prim.Native.Nat.{◌-◌}
 use lib.ListN.{length}
-use native.Mathlib.Omega.{arith}
-use Rattle.placing.proofs.WalkLaws.{Sought, sought_start, sought_end, sought_here, sought_next}
-use borrow.Author.Rules.{rules}
+use Rattle.placing.proofs.WalkLaws.{Sought}
 use Rattle.placing.proofs.lists.member.Given as goal
 
 abbrev pub invariant-loop-i : goal.invariant-loop-i

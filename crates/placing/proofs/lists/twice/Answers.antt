@@ -1,9 +1,7 @@
 -- `placing::lists::twice` meets its contract. Assumes nothing.
 use Prim.Native.Nat.{◌-◌}
-use lib.ListN.{length}
 use native.Mathlib.Omega.{arith}
-use Rattle.placing.proofs.WalkLaws.{Single, single_start, single_end, single_not, single_next}
-use borrow.Author.Rules.{rules}
+use Rattle.placing.proofs.WalkLaws.{single_start, single_end, single_not, single_next}
 use Rattle.placing.proofs.lists.twice.Goals as goal
 
 pub loop-i-init : goal.loop-i-init

@@ -2,10 +2,8 @@
 use mathlib.Core.Bool.{not}
 use mathlib.Core.Path.{ap}
 use Prim.Native.Nat.{◌-◌}
-use lib.ListN.{length}
 use native.Mathlib.Omega.{arith}
-use Rattle.placing.proofs.WalkLaws.{Known, known_start, known_end, known_not, known_next}
-use borrow.Author.Rules.{rules}
+use Rattle.placing.proofs.WalkLaws.{known_start, known_end, known_not, known_next}
 use Rattle.placing.proofs.lists.unknown_lane.Goals as goal
 
 pub loop-i-init : goal.loop-i-init

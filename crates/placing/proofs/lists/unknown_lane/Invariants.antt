@@ -1,9 +1,7 @@
 -- `placing::lists::unknown_lane` meets its contract. Assumes nothing.
 use Prim.Native.Nat.{◌-◌}
 use lib.ListN.{length}
-use native.Mathlib.Omega.{arith}
-use Rattle.placing.proofs.WalkLaws.{Known, known_start, known_end, known_not, known_next}
-use borrow.Author.Rules.{rules}
+use Rattle.placing.proofs.WalkLaws.{Known}
 use Rattle.placing.proofs.lists.unknown_lane.Given as goal
 
 abbrev pub invariant-loop-i : goal.invariant-loop-i

@@ -1,6 +1,5 @@
 -- `placing::stop_line::across` meets its contract. Assumes nothing.
 use Rattle.placing.proofs.PlaceLaws.{across_is}
-use borrow.Author.Rules.{rules}
 use Rattle.placing.proofs.stop_line.across.Goals as goal
 
 pub returns : goal.returns

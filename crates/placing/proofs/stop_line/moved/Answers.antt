@@ -2,7 +2,6 @@
 use mathlib.Core.Path.{ap}
 use lib.Ieee.{lt}
 use Rattle.geometry.specs.Double.{epsilon}
-use borrow.Author.Rules.{rules}
 use Rattle.placing.proofs.stop_line.moved.Goals as goal
 
 pub returns : goal.returns

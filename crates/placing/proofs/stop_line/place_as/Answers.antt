@@ -2,7 +2,6 @@
 use mathlib.Core.Bool.{not}
 use mathlib.Core.Path.{ap}
 use Rattle.placing.proofs.PlaceLaws.{as_given, as_station, as_infinite, as_negative, as_end}
-use borrow.Author.Rules.{rules}
 use Rattle.placing.proofs.stop_line.place_as.Goals as goal
 
 pub returns-then-not-is_finite : goal.returns-then-not-is_finite

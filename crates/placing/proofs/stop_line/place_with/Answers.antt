@@ -2,7 +2,6 @@
 use native.Mathlib.Omega.{arith}
 use Rattle.place.proofs.LineLaws.{part_long}
 use Rattle.placing.proofs.PlaceLaws.{no_center, center_there, placed_is}
-use borrow.Author.Rules.{rules}
 use Rattle.placing.proofs.stop_line.place_with.Goals as goal
 
 pub returns-then-not-center : goal.returns-then-not-center

@@ -1,12 +1,8 @@
 -- `polyline::direction::backward` meets its contract. The invariant: no segment from i to start has a direction. Assumes nothing.
-use Rattle.polyline.proofs.Lists.{below_here, below_past, below_end}
 use Rattle.geometry.specs.Polyline.{polyline_of, segment_direction}
-use Rattle.geometry.specs.Maybe.{maybe_point2}
 use Rattle.rows.specs.Lists.{first_below}
-use native.Mathlib.Omega.{arith}
-use mathlib.Core.Path.{◌≡◌, refl, sym, ap, ◌∙◌}
+use mathlib.Core.Path.{◌≡◌, ◌∙◌}
 use Prim.Native.Nat.{◌-◌, ◌≤◌}
-use borrow.Author.Rules.{rules}
 use Rattle.polyline.proofs.direction.backward.Given as goal
 
 abbrev pub invariant-loop-i : goal.invariant-loop-i

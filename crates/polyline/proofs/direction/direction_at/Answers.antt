@@ -2,7 +2,6 @@
 use Rattle.polyline.proofs.Lines.{direction_few, direction_none, direction_some}
 use Rattle.geometry.specs.Maybe.{maybe_location}
 use mathlib.Core.Path.{sym, ap, ◌∙◌}
-use borrow.Author.Rules.{rules}
 use Rattle.polyline.proofs.direction.direction_at.Goals as goal
 
 pub returns-then-cs-lt2 : goal.returns-then-cs-lt2

@@ -5,7 +5,6 @@ use lib.ListN.{length}
 use native.Mathlib.Omega.{arith}
 use mathlib.Core.Path.{◌≡◌, sym, ap, ◌∙◌}
 use Prim.Native.Nat.{◌-◌, ◌/◌, min}
-use borrow.Author.Rules.{rules}
 use Rattle.polyline.proofs.direction.direction_from.Goals as goal
 use Rattle.polyline.proofs.direction.direction_from.Goals.{else-i-last, then-i-last}
 

@@ -1,13 +1,9 @@
 -- `polyline::direction::forward` meets its contract. The invariant: no segment from start to i has a direction. Assumes nothing.
-use Rattle.polyline.proofs.Lists.{first_here, first_past, first_end}
 use Rattle.geometry.specs.Polyline.{polyline_of, segment_direction}
-use Rattle.geometry.specs.Maybe.{maybe_point2}
 use Rattle.rows.specs.Lists.{first_from}
 use lib.ListN.{length}
-use native.Mathlib.Omega.{arith}
-use mathlib.Core.Path.{◌≡◌, refl, sym, ap, ◌∙◌}
+use mathlib.Core.Path.{◌≡◌, ◌∙◌}
 use Prim.Native.Nat.{◌-◌, ◌/◌, ◌≤◌}
-use borrow.Author.Rules.{rules}
 use Rattle.polyline.proofs.direction.forward.Given as goal
 
 abbrev pub invariant-loop-i : goal.invariant-loop-i

@@ -1,7 +1,6 @@
 -- `polyline::direction::segment_direction` meets its contract. Assumes nothing.
 use native.Mathlib.Numerals.{add-one}
 use Rattle.geometry.specs.Polyline.{segment_direction}
-use borrow.Author.Rules.{rules}
 use Rattle.polyline.proofs.direction.segment_direction.Goals as goal
 
 pub returns : goal.returns

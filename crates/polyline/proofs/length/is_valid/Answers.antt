@@ -1,6 +1,5 @@
 -- `polyline::length::is_valid` meets its contract. Assumes nothing.
 use Rattle.polyline.proofs.Lines.{few_valid, many_valid}
-use borrow.Author.Rules.{rules}
 use Rattle.polyline.proofs.length.is_valid.Goals as goal
 
 pub returns-then-cs-lt2 : goal.returns-then-cs-lt2

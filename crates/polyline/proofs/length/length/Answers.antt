@@ -1,7 +1,6 @@
 -- `polyline::length::length` meets its contract. The loop's sum is the length up to point i. Assumes nothing.
 use Rattle.polyline.proofs.Lines.{length_next, length_is}
 use Rattle.geometry.specs.Polyline.{polyline_of, length_to}
-use lib.ListN.{length}
 use native.Mathlib.Omega.{arith}
 use mathlib.Core.Path.{◌≡◌, refl, ◌∙◌}
 use Prim.Native.Nat.{◌≤◌, ◌-◌, ◌/◌}

@@ -1,9 +1,7 @@
 -- `polyline::length::length` meets its contract. The loop's sum is the length up to point i. Assumes nothing.
-use Rattle.polyline.proofs.Lines.{length_next, length_is}
 use Rattle.geometry.specs.Polyline.{polyline_of, length_to}
 use lib.ListN.{length}
-use native.Mathlib.Omega.{arith}
-use mathlib.Core.Path.{◌≡◌, refl, ◌∙◌}
+use mathlib.Core.Path.{◌≡◌, ◌∙◌}
 use Prim.Native.Nat.{◌≤◌, ◌-◌, ◌/◌}
 use Rattle.polyline.proofs.length.length.Given as goal
 

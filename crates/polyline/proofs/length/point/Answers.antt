@@ -1,7 +1,6 @@
 -- `polyline::length::point` meets its contract. Assumes nothing.
 use Rattle.polyline.proofs.Lines.{point_is}
 use Rattle.geometry.specs.Polyline.{point_in}
-use borrow.Author.Rules.{rules}
 use Rattle.polyline.proofs.length.point.Goals as goal
 
 pub returns : goal.returns

@@ -1,7 +1,6 @@
 -- `polyline::length::segment_length` meets its contract. Assumes nothing.
 use native.Mathlib.Numerals.{add-one}
 use Rattle.geometry.specs.Polyline.{segment_length}
-use borrow.Author.Rules.{rules}
 use Rattle.polyline.proofs.length.segment_length.Goals as goal
 
 pub returns : goal.returns

@@ -2,7 +2,6 @@
 use Rattle.polyline.proofs.Lines.{length-points, locate_none, locate_one, locate_start, locate_past}
 use native.Mathlib.Omega.{arith}
 use mathlib.Core.Path.{◌∙◌}
-use borrow.Author.Rules.{rules}
 use Rattle.polyline.proofs.locate.locate.Goals as goal
 
 pub returns-then-n-eq0 : goal.returns-then-n-eq0

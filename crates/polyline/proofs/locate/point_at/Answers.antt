@@ -2,7 +2,6 @@
 use Rattle.polyline.proofs.Lines.{length-points, locate_none, at_none, at_some}
 use Rattle.geometry.specs.Maybe.{maybe_location}
 use mathlib.Core.Path.{sym, ap, ◌∙◌}
-use borrow.Author.Rules.{rules}
 use Rattle.polyline.proofs.locate.point_at.Goals as goal
 
 pub returns-then-cs-eq0 : goal.returns-then-cs-eq0

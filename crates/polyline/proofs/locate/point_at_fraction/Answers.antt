@@ -1,6 +1,5 @@
 -- `polyline::locate::point_at_fraction` meets its contract. Assumes nothing.
 use Rattle.geometry.specs.Polyline.{point_at_fraction}
-use borrow.Author.Rules.{rules}
 use Rattle.polyline.proofs.locate.point_at_fraction.Goals as goal
 
 pub returns : goal.returns

@@ -1,7 +1,6 @@
 -- `polyline::locate::point_of` meets its contract. Assumes nothing.
 use Rattle.polyline.proofs.Lines.{point_inside, point_past}
 use mathlib.Core.Path.{sym, ◌∙◌}
-use borrow.Author.Rules.{rules}
 use Rattle.polyline.proofs.locate.point_of.Goals as goal
 
 pub returns-then-i-last : goal.returns-then-i-last

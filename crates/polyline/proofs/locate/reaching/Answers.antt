@@ -1,12 +1,11 @@
 -- `polyline::locate::reaching` meets its contract. The invariant: no segment before i reaches the station. Assumes nothing.
-use Rattle.polyline.proofs.Lines.{Reaching, reaching_start, reaching_here, reaching_past, reaching_end}
-use Rattle.geometry.specs.Polyline.{polyline_of, location}
+use Rattle.polyline.proofs.Lines.{reaching_start, reaching_here, reaching_past, reaching_end}
+use Rattle.geometry.specs.Polyline.{location}
 use Rattle.geometry.specs.Double.{f1}
 use lib.ListN.{length}
 use native.Mathlib.Omega.{arith}
 use mathlib.Core.Path.{◌≡◌, sym, ◌∙◌}
 use Prim.Native.Nat.{◌-◌, ◌/◌}
-use borrow.Author.Rules.{rules}
 use Rattle.polyline.proofs.locate.reaching.Goals as goal
 
 pub loop-i-init : goal.loop-i-init

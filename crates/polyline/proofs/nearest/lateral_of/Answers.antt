@@ -1,6 +1,5 @@
 -- `polyline::nearest::lateral_of` meets its contract. Assumes nothing.
 use Rattle.geometry.specs.Polyline.{lateral_of}
-use borrow.Author.Rules.{rules}
 use Rattle.polyline.proofs.nearest.lateral_of.Goals as goal
 
 pub returns-in-At : goal.returns-in-At

@@ -1,5 +1,5 @@
 -- `polyline::nearest::nearest_of_segments` meets its contract. The invariant: the best of the first i segments is the one kept. Assumes nothing.
-use Rattle.polyline.proofs.Lines.{length-points, Best, best_start, best_taken, best_kept, nearest_many}
+use Rattle.polyline.proofs.Lines.{length-points, best_start, best_taken, best_kept, nearest_many}
 use Rattle.geometry.specs.Polyline.{polyline_of}
 use lib.ListN.{length}
 use mathlib.Core.Option.{some}
@@ -14,9 +14,9 @@ loop-i-init c = (omega arith, best_start _ _ _ _ c.segment_distance-best.ensures
 
 pub loop-i-preserved : goal.loop-i-preserved
 loop-i-preserved c = (
-      omega arith,
-      elim c.if-d-best.branch [ then-d-best w ↦ rw (w.best-is, w.at-is, w.start-is) (best_taken _ _ _ _ _ _ _ c.loop-i.invariant.1 _ _ c.segment_distance-d.ensures c.segment_length-seg.ensures w.if-d-best.true) | else-d-best w ↦ rw (w.best-is, w.at-is, w.start-is) (best_kept _ _ _ _ _ _ _ c.loop-i.invariant.1 _ _ c.segment_distance-d.ensures c.segment_length-seg.ensures w.if-d-best.false) ],
-    )
+  omega arith,
+  elim c.if-d-best.branch [ then-d-best w ↦ rw (w.best-is, w.at-is, w.start-is) (best_taken _ _ _ _ _ _ _ c.loop-i.invariant.1 _ _ c.segment_distance-d.ensures c.segment_length-seg.ensures w.if-d-best.true) | else-d-best w ↦ rw (w.best-is, w.at-is, w.start-is) (best_kept _ _ _ _ _ _ _ c.loop-i.invariant.1 _ _ c.segment_distance-d.ensures c.segment_length-seg.ensures w.if-d-best.false) ],
+)
 
 pub nearest_on-requires : goal.nearest_on-requires
 nearest_on-requires c = (omega arith, c.loop-i.invariant.1.begins)

@@ -1,7 +1,6 @@
 -- `polyline::nearest::nearest_on` meets its contract. Assumes nothing.
 use Rattle.polyline.proofs.Lines.{Foot, foot_made, nearest_on_lem}
 use Rattle.geometry.specs.Polyline.{polyline_of}
-use borrow.Author.Rules.{rules}
 use Rattle.polyline.proofs.nearest.nearest_on.Goals as goal
 
 pub returns : goal.returns

@@ -3,7 +3,6 @@ use Rattle.polyline.proofs.Lines.{length-points, nearest_none, nearest_one}
 use Rattle.geometry.specs.Point.{distance2}
 use Rattle.geometry.specs.declared.Point2.{Point2}
 use mathlib.Core.Path.{ap, ◌∙◌}
-use borrow.Author.Rules.{rules}
 use Rattle.polyline.proofs.nearest.nearest_point.Goals as goal
 
 pub returns-then-n-eq0 : goal.returns-then-n-eq0

@@ -1,7 +1,6 @@
 -- `polyline::nearest::segment_distance` meets its contract. Assumes nothing.
 use Rattle.polyline.proofs.Lines.{Foot, foot_made, foot_away}
 use Rattle.geometry.specs.Polyline.{polyline_of}
-use borrow.Author.Rules.{rules}
 use Rattle.polyline.proofs.nearest.segment_distance.Goals as goal
 
 pub returns : goal.returns

@@ -1,5 +1,5 @@
 -- `printing::decimal::digit` is safe and ends after nine turns at most. Assumes nothing.
-use Rattle.std.proofs.Common.{◌≡◌, ◌-◌, ◌≤◌, length, rules}
+use Rattle.std.proofs.Common.{◌≡◌, ◌-◌, ◌≤◌, length}
 use Rattle.printing.proofs.decimal.digit.Given as goal
 
 abbrev pub invariant-loop-d : goal.invariant-loop-d

@@ -1,5 +1,5 @@
 -- `printing::decimal::raise` is safe and ends after 400 turns at most. Assumes nothing.
-use Rattle.std.proofs.Common.{◌≡◌, ◌-◌, ◌≤◌, length, rules}
+use Rattle.std.proofs.Common.{◌≡◌, ◌-◌, ◌≤◌, length}
 use Rattle.printing.proofs.decimal.raise.Given as goal
 
 abbrev pub invariant-loop-k : goal.invariant-loop-k

@@ -1,5 +1,5 @@
 -- `printing::limbs::add` is safe and ends: a store keeps the length, and fewer limbs are left. Assumes nothing.
-use Rattle.std.proofs.Common.{◌≡◌, ◌-◌, ◌≤◌, length, arith, length-set, rules}
+use Rattle.std.proofs.Common.{◌≡◌, ◌-◌, ◌≤◌, length}
 use Rattle.printing.proofs.limbs.add.Given as goal
 
 abbrev pub invariant-loop-i : goal.invariant-loop-i

@@ -1,5 +1,5 @@
 -- `printing::limbs::compared` is safe and ends: fewer limbs are left. Assumes nothing.
-use Rattle.std.proofs.Common.{◌-◌, ◌≤◌, length, rules}
+use Rattle.std.proofs.Common.{◌-◌, ◌≤◌, length}
 use Rattle.printing.proofs.limbs.compared.Given as goal
 
 abbrev pub invariant-loop-i : goal.invariant-loop-i

@@ -1,5 +1,5 @@
 -- `printing::limbs::shift` is safe and ends: fewer doublings are left. Assumes nothing.
-use Rattle.std.proofs.Common.{◌≡◌, length, rules}
+use Rattle.std.proofs.Common.{◌≡◌, length}
 use Rattle.printing.proofs.limbs.shift.Given as goal
 
 abbrev pub invariant-loop-left : goal.invariant-loop-left

@@ -1,5 +1,4 @@
 -- `printing::map::lamps` is safe and ends: fewer are left. Assumes nothing.
-use Rattle.std.proofs.Common.{rules}
 use Rattle.printing.proofs.map.lamps.Given as goal
 
 abbrev pub invariant-loop-left : goal.invariant-loop-left

@@ -1,5 +1,4 @@
 -- `printing::map::records` is safe and ends: fewer records are left. Assumes nothing.
-use Rattle.std.proofs.Common.{rules}
 use Rattle.printing.proofs.map.records.Given as goal
 
 abbrev pub invariant-loop-left : goal.invariant-loop-left

@@ -1,5 +1,4 @@
 -- `printing::sets::warnings` is safe and ends: fewer are left. Assumes nothing.
-use Rattle.std.proofs.Common.{rules}
 use Rattle.printing.proofs.sets.warnings.Given as goal
 
 abbrev pub invariant-loop-left : goal.invariant-loop-left

@@ -1,5 +1,5 @@
 -- `sample_text::bytes::bytes_at` meets its contract: a store keeps the length, and fewer bytes are left. Assumes nothing.
-use Rattle.std.proofs.Common.{◌≡◌, ◌-◌, ◌≤◌, length, arith, length-set, rules}
+use Rattle.std.proofs.Common.{◌≡◌, ◌-◌, ◌≤◌, length}
 use Rattle.sample_text.proofs.bytes.bytes_at.Given as goal
 
 abbrev pub invariant-loop-n : goal.invariant-loop-n

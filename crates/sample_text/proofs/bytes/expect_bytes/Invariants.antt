@@ -1,5 +1,5 @@
 -- `sample_text::bytes::expect_bytes` is safe and ends: fewer bytes are left. Assumes nothing.
-use Rattle.std.proofs.Common.{◌-◌, length, arith, rules}
+use Rattle.std.proofs.Common.{◌-◌, length}
 use Rattle.sample_text.proofs.bytes.expect_bytes.Given as goal
 
 abbrev pub invariant-loop-n : goal.invariant-loop-n

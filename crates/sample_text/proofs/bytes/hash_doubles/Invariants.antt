@@ -1,5 +1,5 @@
 -- `sample_text::bytes::hash_doubles` is safe and ends: fewer doubles are left. Assumes nothing.
-use Rattle.std.proofs.Common.{◌-◌, length, arith, rules}
+use Rattle.std.proofs.Common.{◌-◌, length}
 use Rattle.sample_text.proofs.bytes.hash_doubles.Given as goal
 
 abbrev pub invariant-loop-n : goal.invariant-loop-n

@@ -1,6 +1,5 @@
 -- `stop_lines::draft::check_fold` meets its contract. Assumes nothing.
 use Rattle.stop_lines.proofs.DraftLaws as K
-use borrow.Author.Rules.{rules}
 use Rattle.stop_lines.proofs.draft.check_fold.Goals as goal
 
 pub returns-then-fold_room : goal.returns-then-fold_room

@@ -1,6 +1,5 @@
 -- `stop_lines::draft::is_late` meets its contract. Assumes nothing.
 use Rattle.stop_lines.proofs.DraftLaws as D
-use borrow.Author.Rules.{rules}
 use Rattle.stop_lines.proofs.draft.is_late.Goals as goal
 
 pub returns-in-StopSign : goal.returns-in-StopSign

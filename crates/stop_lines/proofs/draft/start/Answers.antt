@@ -1,7 +1,6 @@
 -- `stop_lines::draft::start` meets its contract. Assumes nothing.
 use native.Mathlib.Omega.{arith}
 use Rattle.stop_lines.proofs.DraftLaws as D
-use borrow.Author.Rules.{rules}
 use Rattle.stop_lines.proofs.draft.start.Goals as goal
 
 pub push-requires : goal.push-requires

@@ -2,7 +2,6 @@
 use native.Mathlib.Omega.{arith}
 use Rattle.place.proofs.LineLaws.{part_long}
 use Rattle.stop_lines.proofs.PlanLaws as P
-use borrow.Author.Rules.{rules}
 use Rattle.stop_lines.proofs.plan.fitted.Goals as goal
 
 pub overflow_mul-e : goal.overflow_mul-e

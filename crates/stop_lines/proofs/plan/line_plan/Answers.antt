@@ -6,7 +6,6 @@ use Rattle.place.proofs.Sound.{readable}
 use Rattle.placing.proofs.CheckLaws.{lanes_there}
 use Rattle.stop_lines.specs.Stop.{new_stop_line}
 use Rattle.stop_lines.proofs.PlanLaws as P
-use borrow.Author.Rules.{rules}
 use Rattle.stop_lines.proofs.plan.line_plan.Goals as goal
 
 pub check_lane_list-listed-requires : goal.check_lane_list-listed-requires

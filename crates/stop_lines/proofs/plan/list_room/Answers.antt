@@ -1,6 +1,5 @@
 -- `stop_lines::plan::list_room` meets its contract. Assumes nothing.
 use Rattle.stop_lines.proofs.RoomLaws as R
-use borrow.Author.Rules.{rules}
 use Rattle.stop_lines.proofs.plan.list_room.Goals as goal
 
 pub returns-then-count-lt128 : goal.returns-then-count-lt128

@@ -1,6 +1,5 @@
 -- `stop_lines::plan::room` meets its contract. Assumes nothing.
 use Rattle.stop_lines.proofs.RoomLaws as R
-use borrow.Author.Rules.{rules}
 use Rattle.stop_lines.proofs.plan.room.Goals as goal
 
 pub returns-then-not-rule_room : goal.returns-then-not-rule_room

@@ -1,6 +1,5 @@
 -- `stop_lines::plan::rule_room` meets its contract. Assumes nothing.
 use Rattle.stop_lines.proofs.RoomLaws as R
-use borrow.Author.Rules.{rules}
 use Rattle.stop_lines.proofs.plan.rule_room.Goals as goal
 
 pub returns-in-StopSign : goal.returns-in-StopSign

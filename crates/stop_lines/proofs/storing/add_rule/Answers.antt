@@ -1,7 +1,6 @@
 -- `stop_lines::storing::add_rule` meets its contract. Assumes nothing.
 use native.Mathlib.Omega.{arith}
 use Rattle.stop_lines.proofs.StoringLaws as S
-use borrow.Author.Rules.{rules}
 use Rattle.stop_lines.proofs.storing.add_rule.Goals as goal
 
 pub push_rule-requires : goal.push_rule-requires

@@ -1,6 +1,5 @@
 -- `stop_lines::storing::store` meets its contract. Assumes nothing.
 use Rattle.stop_lines.proofs.StoringLaws as S
-use borrow.Author.Rules.{rules}
 use Rattle.stop_lines.proofs.storing.store.Goals as goal
 
 pub push_line-requires : goal.push_line-requires

@@ -1,6 +1,5 @@
 use mathlib.Core.Path.{refl}
 use Rattle.store.specs.Layout.{coord_base_of}
-use borrow.Author.Rules.{rules}
 use Rattle.store.proofs.layout.coord_base.Goals as goal
 
 pub returns : goal.returns

@@ -3,7 +3,6 @@ use mathlib.Core.Path.{ap}
 use native.Mathlib.Omega.{arith}
 use Rattle.store.specs.Layout.{coord_place_of}
 use Rattle.store.proofs.StoreLaws.{coord_placed}
-use borrow.Author.Rules.{rules}
 use Rattle.store.proofs.layout.coord_place.Goals as goal
 
 pub overflow_mul-result : goal.overflow_mul-result

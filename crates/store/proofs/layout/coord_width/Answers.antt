@@ -1,6 +1,5 @@
 use mathlib.Core.Path.{refl}
 use Rattle.store.specs.Layout.{coord_width_of}
-use borrow.Author.Rules.{rules}
 use Rattle.store.proofs.layout.coord_width.Goals as goal
 
 pub returns : goal.returns

@@ -3,7 +3,6 @@ use mathlib.Core.Path.{ap}
 use native.Mathlib.Omega.{arith}
 use Rattle.store.specs.Layout.{place_of}
 use Rattle.store.proofs.StoreLaws.{placed}
-use borrow.Author.Rules.{rules}
 use Rattle.store.proofs.layout.place.Goals as goal
 
 pub overflow_mul-result : goal.overflow_mul-result

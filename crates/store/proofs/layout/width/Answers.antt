@@ -1,6 +1,5 @@
 use mathlib.Core.Path.{refl}
 use Rattle.store.specs.Layout.{width_of}
-use borrow.Author.Rules.{rules}
 use Rattle.store.proofs.layout.width.Goals as goal
 
 pub returns : goal.returns
