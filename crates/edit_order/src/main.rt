@@ -13,9 +13,11 @@ ghost use Rattle.std.specs.Prelude.{◌≤◌};
 use call_list::{Carried, Ran, Reply, RunAnswer};
 use changes::Tally;
 use files::{ChangesRead, MapRead, Written};
-use libc::STDOUT_FILENO;
 use place::MaybeEnds;
 use sample_text::{bytes, expect_number, hex_at, line_end, name_at, number_at};
+
+// The descriptor that programs print to.
+const STDOUT_FILENO: i32 = 1;
 
 // The marks: cases that were met and missed; of the present case, what is lent too short, a word of the row and its value, and of a
 // list of calls (1, else 0) the words of its row and those for answers.
@@ -556,16 +558,9 @@ fn play(text: &[u8]) {
     io::write_all(STDOUT_FILENO, b"\n");
 }
 
-fn main() {
-    let mut path = io::buffer();
-    let length = os::arg(1, &mut path);
-    let file = os::open_read(&path[..length]);
-    if file < 0 {
-        os::fail(&path[..length]);
-        return;
-    }
-    let mut text = [0u8; 262144];
-    let n = io::read_full(file, &mut text);
-    libc::close(file);
-    play(&text[..n]);
+fn main(rt: HostRuntime) -> std::io::Result<()> {
+    let path = std::env::args(&rt)?.nth(1);
+    let text = std::fs::read(&rt, path.unwrap_or(String::new(rt.alloc())))?;
+    play(&text);
+    Ok(())
 }

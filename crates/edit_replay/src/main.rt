@@ -6,10 +6,14 @@
 
 use call_list::Reply;
 use changes::Tally;
-use libc::STDOUT_FILENO;
 use place::MaybeEnds;
 use request_calls::line_over;
 use sample_text::{expect_number, hex_at, name_at};
+use std::fs::File;
+use std::os::unix::fs::FileExt;
+
+// The descriptor that programs print to.
+const STDOUT_FILENO: i32 = 1;
 
 // The counts: refusal n with first detail d at n * 16 + d; before them, what is not about refusals.
 const MET: usize = 0;
@@ -288,7 +292,7 @@ fn step(
 
 // The next line of the file, with the one after it. Past the end there is none.
 fn part(
-    file: i32,
+    file: &File,
     r: Reading,
     words: &mut [u64],
     coords: &mut [f64],
@@ -296,27 +300,26 @@ fn part(
     set: &mut [u64],
     buffer: &mut [u8],
     counts: &mut [u64],
-) -> Reading {
+) -> std::io::Result<Reading> {
     let place = r.place;
     if place > 1073741824 {
-        return r;
+        return Ok(r);
     }
     let mut text = io::large_buffer();
-    let got = libc::pread(file, &mut text, place as i64);
-    let n = io::count(got, &text);
-    step(&text[..n], r, words, coords, fold, set, buffer, counts)
+    let n = file.read_at(&mut text, place)?;
+    Ok(step(&text[..n], r, words, coords, fold, set, buffer, counts))
 }
 
 // Enough lines for the sample, and more.
 fn replay(
-    file: i32,
+    file: &File,
     words: &mut [u64],
     coords: &mut [f64],
     fold: &mut [u64],
     set: &mut [u64],
     buffer: &mut [u8],
     counts: &mut [u64],
-) {
+) -> std::io::Result<()> {
     let mut r = Reading {
         place: 0,
         tally: Tally {
@@ -327,9 +330,10 @@ fn replay(
     };
     let mut left = 16384u64;
     while left > 0 {
-        r = part(file, r, words, coords, fold, set, buffer, counts);
+        r = part(file, r, words, coords, fold, set, buffer, counts)?;
         left -= 1;
     }
+    Ok(())
 }
 
 fn say(name: &[u8], n: u64) {
@@ -374,7 +378,7 @@ fn say_refusals(counts: &[u64]) {
 }
 
 // The tables, and room for a file and the counts.
-fn play(file: i32) {
+fn play(file: &File) -> std::io::Result<()> {
     let mut words = [0u64; 13671];
     let mut coords = [0.0; 105280];
     let mut fold = [0u64; 3556];
@@ -389,30 +393,22 @@ fn play(file: i32) {
         &mut set,
         &mut buffer,
         &mut counts,
-    );
+    )?;
     report(&counts);
+    Ok(())
 }
 
 // The file that an argument names.
-fn play_named(i: usize) {
-    let mut path = io::buffer();
-    let length = os::arg(i, &mut path);
-    let file = os::open_read(&path[..length]);
-    if file < 0 {
-        os::fail(&path[..length]);
-        return;
-    }
-    io::write_all(STDOUT_FILENO, &path[..length]);
+fn play_named(rt: &HostRuntime, path: &str) -> std::io::Result<()> {
+    let file = File::open(rt, path)?;
+    io::write_all(STDOUT_FILENO, path.as_bytes());
     io::write_all(STDOUT_FILENO, b"\n");
-    play(file);
-    libc::close(file);
+    play(&file)
 }
 
-fn main() {
-    let count = os::arg_count();
-    let mut i = 1;
-    while i < count {
-        play_named(i);
-        i += 1;
+fn main(rt: HostRuntime) -> std::io::Result<()> {
+    for path in std::env::args(&rt)?.skip(1) {
+        play_named(&rt, path.as_str())?;
     }
+    Ok(())
 }

@@ -2,7 +2,9 @@
 #![tactic(auto)]
 
 use file_trials::Count;
-use libc::STDOUT_FILENO;
+
+// The descriptor that programs print to.
+pub const STDOUT_FILENO: i32 = 1;
 
 pub fn number(name: &[u8], n: u64) {
     io::write_all(STDOUT_FILENO, name);

@@ -3,9 +3,8 @@
 // how many answers were wrong.
 #![tactic(auto)]
 
-use file_counts::{number, say};
+use file_counts::{STDOUT_FILENO, number, say};
 use file_trials::Count;
-use libc::STDOUT_FILENO;
 
 fn heading(k: u64, n: usize) {
     match k {

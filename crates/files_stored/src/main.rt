@@ -57,27 +57,15 @@ fn both(text: &[u8], words: &mut [u64], coords: &mut [f64]) {
 }
 
 // One file of them.
-fn replay(i: usize) {
-    let mut path = io::buffer();
-    let length = os::arg(i, &mut path);
-    let opened = os::open_read(&path[..length]);
-    if opened < 0 {
-        os::fail(&path[..length]);
-        return;
-    }
-    let mut text = [0u8; 106496];
-    let n = io::read_full(opened, &mut text);
-    libc::close(opened);
+fn replay(text: &[u8]) {
     let mut words = [0u64; 13671];
     let mut coords = [0.0f64; 105280];
-    both(&text[..n], &mut words, &mut coords);
+    both(text, &mut words, &mut coords);
 }
 
-fn main() {
-    let count = os::arg_count();
-    let mut i = 1;
-    while i < count {
-        replay(i);
-        i += 1;
+fn main(rt: HostRuntime) -> std::io::Result<()> {
+    for path in std::env::args(&rt)?.skip(1) {
+        replay(&std::fs::read(&rt, path)?);
     }
+    Ok(())
 }

@@ -4,8 +4,10 @@
 
 use changes::layout;
 use codec::Number;
-use libc::STDOUT_FILENO;
 use sets::Folded;
+
+// The descriptor that programs print to.
+const STDOUT_FILENO: i32 = 1;
 
 #[derive(Drop)]
 pub struct Tally {
@@ -241,19 +243,11 @@ fn replay(text: &[u8], fold: &mut [u64]) -> Tally {
     t
 }
 
-fn main() {
-    let mut path = io::buffer();
-    let length = os::arg(1, &mut path);
-    let file = os::open_read(&path[..length]);
-    if file < 0 {
-        os::fail(&path[..length]);
-        return;
-    }
-    let mut text = [0u8; 131072];
-    let n = io::read_full(file, &mut text);
-    libc::close(file);
+fn main(rt: HostRuntime) -> std::io::Result<()> {
+    let path = std::env::args(&rt)?.nth(1);
+    let text = std::fs::read(&rt, path.unwrap_or(String::new(rt.alloc())))?;
     let mut fold = [0u64; 3556];
-    let t = replay(&text[..n], &mut fold);
+    let t = replay(&text, &mut fold);
     io::write_all(STDOUT_FILENO, b"met ");
     io::print_decimal(STDOUT_FILENO, t.met);
     io::write_all(STDOUT_FILENO, b"\nmissed ");
@@ -261,4 +255,5 @@ fn main() {
     io::write_all(STDOUT_FILENO, b"\nrefused ");
     io::print_decimal(STDOUT_FILENO, t.refused);
     io::write_all(STDOUT_FILENO, b"\n");
+    Ok(())
 }

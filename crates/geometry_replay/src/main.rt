@@ -6,6 +6,9 @@
 mod lines;
 mod points;
 
+use std::fs::File;
+use std::os::unix::fs::FileExt;
+
 #[derive(Clone, Copy)]
 pub struct Tally {
     pub met: u64,
@@ -107,19 +110,18 @@ fn replay(words: &[u8], before: Tally) -> Tally {
 }
 
 // The next part of the file.
-fn part(file: i32, t: Tally) -> Tally {
+fn part(file: &File, t: Tally) -> std::io::Result<Tally> {
     let place = t.used;
     if place > 1073741824 {
-        return t;
+        return Ok(t);
     }
     let mut buf = io::large_buffer();
-    let got = libc::pread(file, &mut buf, place as i64);
-    let n = io::count(got, &buf);
-    replay(&buf[..n], t)
+    let n = file.read_at(&mut buf, place)?;
+    Ok(replay(&buf[..n], t))
 }
 
 // Enough parts for a file of 2 ^ 30 bytes. Past the end a part is empty.
-fn parts(file: i32) -> Tally {
+fn parts(file: &File) -> std::io::Result<Tally> {
     let mut t = Tally {
         met: 0,
         missed: 0,
@@ -128,22 +130,16 @@ fn parts(file: i32) -> Tally {
     };
     let mut left = 16384u64;
     while left > 0 {
-        t = part(file, t);
+        t = part(file, t)?;
         left -= 1;
     }
-    t
+    Ok(t)
 }
 
-fn main() {
-    let mut path = io::buffer();
-    let length = os::arg(1, &mut path);
-    let file = os::open_read(&path[..length]);
-    if file < 0 {
-        os::fail(&path[..length]);
-        return;
-    }
-    let t = parts(file);
-    libc::close(file);
+fn main(rt: HostRuntime) -> std::io::Result<()> {
+    let path = std::env::args(&rt)?.nth(1);
+    let file = File::open(&rt, path.unwrap_or(String::new(rt.alloc())))?;
+    let t = parts(&file)?;
     io::write_all(1, b"met ");
     io::print_decimal(1, t.met);
     io::write_all(1, b"\nmissed ");
@@ -151,4 +147,5 @@ fn main() {
     io::write_all(1, b"\nnot asked ");
     io::print_decimal(1, t.others);
     io::write_all(1, b"\n");
+    Ok(())
 }

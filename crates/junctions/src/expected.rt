@@ -3,8 +3,7 @@ use crate::state::State;
 use crate::{notation, state};
 use call_list::Reply;
 use files::Written;
-use libc::STDOUT_FILENO;
-use printing::{say, word};
+use printing::{STDOUT_FILENO, say, word};
 use request_calls::{expect_ends, expect_set, line_over};
 use sample_text::{expect_number, name_at};
 

@@ -3,16 +3,19 @@
 // running fold, the tally and the map. Where an answer is expected, whether it came. The last line is `ok`, or how many did not.
 #![tactic(auto)]
 
+ghost use Rattle.std.specs.Prelude.{◌≤◌, length};
+
 mod expected;
 mod notation;
 mod state;
 
 use call_list::Reply;
 use changes::Tally;
-use libc::STDOUT_FILENO;
-use printing::{say, word};
+use printing::{STDOUT_FILENO, say, word};
 use sample_text::{line_end, name_at};
 use state::State;
+use std::fs::File;
+use std::io::{Error, ErrorKind, Read};
 
 // The rest of a line, with its end.
 fn say_rest(text: &[u8], at: usize) {
@@ -400,37 +403,52 @@ fn carry_out(path: &[u8], text: &mut [u8], n: usize) -> u64 {
     play_start(text, m)
 }
 
-fn not_opened(path: &[u8]) -> u64 {
-    if os::errno() == libc::ENOENT {
+fn not_opened(path: &[u8], why: Error) -> u64 {
+    if why.kind() == ErrorKind::NotFound {
         return no_text(path, b": there is no such file\n");
     }
     no_text(path, b": the file cannot be opened\n")
 }
 
+// The bytes of the file, up to the end of text or of the file: how many. What cannot be read ends the file.
+fn read_full(file: &mut File, text: &mut [u8]) -> usize
+    ensures { result ≤ length text.new }
+{
+    let mut n = 0;
+    while n < text.len() {
+        let more = file.read(&mut text[n..]).unwrap_or(0);
+        if more == 0 {
+            return n;
+        }
+        n += more;
+    }
+    n
+}
+
 // The file, in room for one byte more than it may have.
-fn read(path: &[u8], file: i32) -> u64 {
+fn read(path: &[u8], mut file: File) -> u64 {
     let mut text = [0u8; 262145];
-    let n = io::read_full(file, &mut text);
-    libc::close(file);
+    let n = read_full(&mut file, &mut text);
     carry_out(path, &mut text, n)
 }
 
-fn run(path: &[u8]) -> u64 {
+fn run(rt: &HostRuntime, path: &str) -> u64 {
     if path.len() == 0 {
         return no_text(
-            path,
+            path.as_bytes(),
             b"name the file that is to be carried out: junctions FILE\n",
         );
     }
-    let file = os::open_read(path);
-    if file < 0 {
-        return not_opened(path);
+    match File::open(rt, path) {
+        Ok(file) => read(path.as_bytes(), file),
+        Err(why) => not_opened(path.as_bytes(), why),
     }
-    read(path, file)
 }
 
-fn main() {
-    let mut path = io::buffer();
-    let length = os::arg(1, &mut path);
-    verdict(run(&path[..length]));
+fn main(rt: HostRuntime) -> std::io::Result<()> {
+    let path = std::env::args(&rt)?
+        .nth(1)
+        .unwrap_or(String::new(rt.alloc()));
+    verdict(run(&rt, path.as_str()));
+    Ok(())
 }

@@ -8,7 +8,8 @@ mod refusals;
 pub mod requests;
 pub mod sets;
 
-use libc::STDOUT_FILENO;
+// The descriptor that programs print to.
+pub const STDOUT_FILENO: i32 = 1;
 
 pub fn say(t: &[u8]) {
     io::write_all(STDOUT_FILENO, t);

@@ -4,7 +4,8 @@
 ghost use Rattle.std.specs.Prelude.{◌≡◌, ◌-◌, ◌^◌, ◌<◌, ◌≤◌, length};
 ghost use Rattle.store.specs.Layout.{Sized, count_of, next_of, limit_of, width_of, coord_width_of};
 
-use libc::STDOUT_FILENO;
+// The descriptor that programs print to.
+const STDOUT_FILENO: i32 = 1;
 
 // A row of kind k more, with its coordinates.
 fn put_row(words: &mut [u64], coords: &mut [f64], k: usize, row: &[u64], part: &[f64])
