@@ -3,7 +3,7 @@
 
 Run at the repository's root: python3 checks/mutate.py [WORDS], for all edits or those whose name holds WORDS.
 What the law leans on (definitions, laws and the types that they name; no function, no worked crossing) is copied to a temporary
-folder, so that the law stands alone, and for each edit `rt dev run` is asked. A line says REFUSED and the first proofs that broke, or PASSES, NOT FOUND where the
+folder, so that the law stands alone, and for each edit `rt check` is asked in the crate run there. A line says REFUSED and the first proofs that broke, or PASSES, NOT FOUND where the
 text to be edited is not there just once, BAD EDIT where it is no definition any more. The exit status is 1 for any but REFUSED.
 A broken proof is not yet a false law: where the law stays true for all that, the edit says why.
 """
@@ -177,10 +177,12 @@ def law_alone(here, root):
 
 
 def broken(text):
-    """The proofs that broke, and whether a definition did."""
-    at = re.findall(r'/(\w+)/(specs|proofs)/([\w/]+)\.antt:\d+:\d+: error: `([^`]+)`(?!: `[^`]+` was not admitted)', text)
-    names = list(dict.fromkeys('%s/%s.%s' % (crate, module, name) for crate, kind, module, name in at if kind == 'proofs'))
-    faults = [name for _, kind, _, name in at if kind == 'specs']
+    """The proofs that broke, of the crate that was being proved, and the definitions that did."""
+    below = re.search(r'^rt: the library (\w+) did not build', text, re.M)
+    crate = below.group(1) if below else 'run'
+    at = re.findall(r'^(?:\./)?(specs|proofs)/([\w/]+)\.antt:\d+:\d+: error: `([^`]+)`(?!: `[^`]+` was not admitted)', text, re.M)
+    names = list(dict.fromkeys('%s/%s.%s' % (crate, module, name) for kind, module, name in at if kind == 'proofs'))
+    faults = [name for kind, _, name in at if kind == 'specs']
     return names, faults
 
 
@@ -190,7 +192,7 @@ def main(words):
     with tempfile.TemporaryDirectory() as made:
         root = made + '/copy'
         law_alone(here, root)
-        first = subprocess.run(['rt', 'dev', 'run'], cwd=root, capture_output=True, text=True)
+        first = subprocess.run(['rt', 'check'], cwd=root + '/crates/run', capture_output=True, text=True)
         if first.returncode:
             sys.exit('the law is not proved as it stands:\n' + first.stdout + first.stderr)
         for edit in EDITS:
@@ -205,7 +207,7 @@ def main(words):
                 unexpected += 1
                 continue
             open(path, 'w').write(text.replace(old, new))
-            done = subprocess.run(['rt', 'dev', 'run'], cwd=root, capture_output=True, text=True)
+            done = subprocess.run(['rt', 'check'], cwd=root + '/crates/run', capture_output=True, text=True)
             open(path, 'w').write(text)
             names, faults = broken(done.stdout + done.stderr)
             if done.returncode and not faults and names:
