@@ -3,7 +3,7 @@
 
 Run at the repository's root: python3 checks/mutate.py [WORDS], for all edits or those whose name holds WORDS.
 What the law leans on (definitions, laws and the types that they name; no function, no worked crossing) is copied to a temporary
-folder, so that the law stands alone, and for each edit `rt dev run` is asked. A line says REFUSED and the first proofs that broke, or PASSES, NOT FOUND where the
+folder, so that the law stands alone, and for each edit `rt check` is asked in the crate run there. A line says REFUSED and the first proofs that broke, or PASSES, NOT FOUND where the
 text to be edited is not there just once, BAD EDIT where it is no definition any more. The exit status is 1 for any but REFUSED.
 A broken proof is not yet a false law: where the law stays true for all that, the edit says why.
 """
@@ -17,105 +17,111 @@ import tempfile
 # name, file under crates/, text, text in its place, and why the law stays true, where it does
 EDITS = [
     # ---- change sets, the fold and the tally
-    ('warning of no code', 'edit/specs/Light', 'liftWarning r gone = warning 4', 'liftWarning r gone = warning 5'),
+    ('warning of no code', 'edit/specs/Light', 'lift_warning r gone = warning 4', 'lift_warning r gone = warning 5'),
     ('warnings said twice', 'edit/specs/Light',
-     'warnings = d .warnings ++ joined (λ r. liftWarning r (lift s lanes r)) rs;',
-     'warnings = d .warnings ++ joined (λ r. liftWarning r (lift s lanes r)) rs ++ joined (λ r. liftWarning r (lift s lanes r)) rs;'),
-    ('empty change sets of a line', 'edit/specs/StopLine', 'created = d .changes .created ++ (entity 8 (fresh (d .map)) ∷ [])', 'created = []'),
-    ('rule of a line not named', 'edit/specs/StopLine', 'created = d .changes .created ++ (entity 8 (fresh (d .map)) ∷ [])', 'created = d .changes .created'),
-    ('links always named', 'edit/specs/Links', 'linkChanges true n = noChanges', 'linkChanges true n = record { created = []; modified = entity 8 n ∷ []; deleted = []; warnings = [] }'),
-    ('links never named', 'edit/specs/Links', 'linkChanges false n = record { created = []; modified = entity 8 n ∷ []; deleted = []; warnings = [] }', 'linkChanges false n = noChanges'),
+     'warnings = d.warnings ++ joined (λ r. lift_warning r (lift s lanes r)) rs;',
+     'warnings = d.warnings ++ joined (λ r. lift_warning r (lift s lanes r)) rs ++ joined (λ r. lift_warning r (lift s lanes r)) rs;'),
+    ('empty change sets of a line', 'edit/specs/StopLine', 'created = d.changes.created ++ (entity 8 (fresh d.map) ∷ [])', 'created = []'),
+    ('rule of a line not named', 'edit/specs/StopLine', 'created = d.changes.created ++ (entity 8 (fresh d.map) ∷ [])', 'created = d.changes.created'),
+    ('links always named', 'edit/specs/Links', 'link_changes true n = no_changes', 'link_changes true n = record { created = []; modified = entity 8 n ∷ []; deleted = []; warnings = [] }'),
+    ('links never named', 'edit/specs/Links', 'link_changes false n = record { created = []; modified = entity 8 n ∷ []; deleted = []; warnings = [] }', 'link_changes false n = no_changes'),
     ('links compared by lanes only', 'edit/specs/Links',
-     'sameLinks r s = sameList (r .lanes) (s .lanes) && sameList (r .controlled) (s .controlled) && sameList (stopLinesOf (r .body)) (stopLinesOf (s .body))',
-     'sameLinks r s = sameList (r .lanes) (s .lanes)'),
-    ('eased rule not named', 'edit/specs/Light', 'easedRef r (eased ks) = entity 8 (r .num) ∷ []', 'easedRef r (eased ks) = []'),
-    ('gone rule not named', 'edit/specs/Light', 'goneRef r gone = entity 8 (r .num) ∷ []', 'goneRef r gone = []'),
+     'same_links r s = same_list r.lanes s.lanes && same_list r.controlled s.controlled && same_list (stop_lines_of r.body) (stop_lines_of s.body)',
+     'same_links r s = same_list r.lanes s.lanes'),
+    ('eased rule not named', 'edit/specs/Light', 'eased_ref r (eased ks) = entity 8 r.num ∷ []', 'eased_ref r (eased ks) = []'),
+    ('gone rule not named', 'edit/specs/Light', 'gone_ref r gone = entity 8 r.num ∷ []', 'gone_ref r gone = []'),
     ('gone rule stays', 'edit/specs/Light', 'lifted r gone = []', 'lifted r gone = r ∷ []'),
-    ('created and deleted stays in the fold', 'changes/specs/ChangeSet', 'deleted = without (sortRefs (c .deleted)) (c .created);', 'deleted = sortRefs (c .deleted);'),
+    ('created and deleted stays in the fold', 'changes/specs/ChangeSet', 'deleted = without (sort_refs c.deleted) c.created;', 'deleted = sort_refs c.deleted;'),
     ('created stays modified', 'changes/specs/ChangeSet',
-     'modified = without (without (sortRefs (c .modified)) (c .created)) (c .deleted);', 'modified = without (sortRefs (c .modified)) (c .deleted);'),
-    ('fold keeps warnings', 'changes/specs/ChangeSet', 'deleted = f .deleted ++ c .deleted; warnings = [] })', 'deleted = f .deleted ++ c .deleted; warnings = c .warnings })'),
-    ('fold unsorted', 'changes/specs/ChangeSet', 'created = without (sortRefs (c .created)) (c .deleted);', 'created = without (c .created) (c .deleted);'),
-    ('tally of the set', 'edit/specs/Edit', 'tally = tallyOf fold };', 'tally = tallyOf set };'),
-    ('fold is the last set', 'edit/specs/Edit', 'let fold = foldStep (s .fold) set', 'let fold = set'),
+     'modified = without (without (sort_refs c.modified) c.created) c.deleted;', 'modified = without (sort_refs c.modified) c.deleted;'),
+    ('fold keeps warnings', 'changes/specs/ChangeSet', 'deleted = f.deleted ++ c.deleted; warnings = [] })', 'deleted = f.deleted ++ c.deleted; warnings = c.warnings })'),
+    ('fold unsorted', 'changes/specs/ChangeSet', 'created = without (sort_refs c.created) c.deleted;', 'created = without c.created c.deleted;'),
+    ('tally of the set', 'edit/specs/Edit', 'tally = tally_of fold };', 'tally = tally_of set };'),
+    ('fold is the last set', 'edit/specs/Edit', 'let fold = fold_step s.fold set', 'let fold = set'),
     ('group keeps no signal', 'edit/specs/Light',
-     'extended (light signals line) n s = light (signals ++ (n ∷ [])) (orElse line s)', 'extended (light signals line) n s = light signals (orElse line s)'),
-    ('map left alone', 'edit/specs/StopLine', 'map = withRule (d .map) w (a .lanes);', 'map = d .map;'),
-    ('refused call clears the fold', 'run/specs/Run', 'stateAfter s (refused n ds) = s',
-     'stateAfter s (refused n ds) = record { map = s .map; fold = Rattle·changes.specs.ChangeSet.noChanges; tally = s .tally }'),
+     'extended (light signals line) n s = light (signals ++ (n ∷ [])) (or_else line s)', 'extended (light signals line) n s = light signals (or_else line s)'),
+    ('map left alone', 'edit/specs/StopLine', 'map = with_rule d.map w a.lanes;', 'map = d.map;'),
+    ('refused call clears the fold', 'run/specs/Run', 'state_after s (refused n ds) = s',
+     'state_after s (refused n ds) = record { map = s.map; fold = Rattle.changes.specs.ChangeSet.no_changes; tally = s.tally }'),
     # ---- refusals
-    ('11 not tested', 'edit/specs/Edit', '  refuseWhen (leb (2 ^ 64) (d .map .next)) 11 []\n', ''),
-    ('9 not tested', 'edit/specs/Edit', '  refuseWhen (not (every pointOnMap (d .stored))) 9 []\n', ''),
-    ('ceilings not tested', 'edit/specs/Edit', 'withinCeilings (d .map) && foldFits fold', 'foldFits fold'),
-    ('fold ceiling not tested', 'edit/specs/Edit', 'withinCeilings (d .map) && foldFits fold', 'withinCeilings (d .map)',
+    ('11 not tested', 'edit/specs/Edit', '  refuse_when (leb (2 ^ 64) d.map.next) 11 []\n', ''),
+    ('9 not tested', 'edit/specs/Edit', '  refuse_when (not (every point_on_map d.stored)) 9 []\n', ''),
+    ('ceilings not tested', 'edit/specs/Edit', 'within_ceilings d.map && fold_fits fold', 'fold_fits fold'),
+    ('fold ceiling not tested', 'edit/specs/Edit', 'within_ceilings d.map && fold_fits fold', 'within_ceilings d.map',
      'the fold of a run names at most the 480 records of a map, so this ceiling is never met'),
-    ('unknown lane taken', 'place/specs/Place', '  refuseFound (unknownIn (λ l. l .num) (m .lanes) lanes) 1\n', ''),
-    ('absent rule is 12', 'edit/specs/Links', 'r ← present (ruleOf m (a .rule)) 2 (8 ∷ a .rule ∷ [])', 'r ← present (ruleOf m (a .rule)) 12 (8 ∷ a .rule ∷ [])'),
+    ('unknown lane taken', 'place/specs/Place', '  refuse_found (unknown_in (λ l. l.num) m.lanes lanes) 1\n', ''),
+    ('absent rule is 12', 'edit/specs/Links', 'r ← present (rule_of m a.rule) 2 (8 ∷ a.rule ∷ [])', 'r ← present (rule_of m a.rule) 12 (8 ∷ a.rule ∷ [])'),
     # ---- numbers
     ('numbers invented', 'edit/specs/StopLine', 'changes = record { created = entity 5 n ∷ []; modified', 'changes = record { created = entity 5 0 ∷ []; modified'),
-    ('signal takes the line\'s number', 'edit/specs/Light', 'let n = fresh (one .map) in', 'let n = fresh m in'),
+    ('signal takes the line\'s number', 'edit/specs/Light', 'let n = fresh one.map in', 'let n = fresh m in'),
     ('line\'s number not used up', 'map/specs/Rows',
-     'next = suc (fresh m);\n      lanes = m .lanes;\n      boundaries = m .boundaries;\n      stopLines = m .stopLines ++',
-     'next = fresh m;\n      lanes = m .lanes;\n      boundaries = m .boundaries;\n      stopLines = m .stopLines ++'),
+     'next = suc (fresh m);\n      lanes = m.lanes;\n      boundaries = m.boundaries;\n      stop_lines = m.stop_lines ++',
+     'next = fresh m;\n      lanes = m.lanes;\n      boundaries = m.boundaries;\n      stop_lines = m.stop_lines ++'),
     ('rule takes the signal\'s number', 'map/specs/Rows',
-     'next = suc (fresh m);\n      lanes = m .lanes;\n      boundaries = m .boundaries;\n      stopLines = m .stopLines;\n      signals = m .signals ++',
-     'next = fresh m;\n      lanes = m .lanes;\n      boundaries = m .boundaries;\n      stopLines = m .stopLines;\n      signals = m .signals ++'),
+     'next = suc (fresh m);\n      lanes = m.lanes;\n      boundaries = m.boundaries;\n      stop_lines = m.stop_lines;\n      signals = m.signals ++',
+     'next = fresh m;\n      lanes = m.lanes;\n      boundaries = m.boundaries;\n      stop_lines = m.stop_lines;\n      signals = m.signals ++'),
     ('rule\'s number not used up', 'map/specs/Rows',
-     'next = suc (fresh m);\n      lanes = m .lanes;\n      boundaries = m .boundaries;\n      stopLines = m .stopLines;\n      signals = m .signals;\n      crosswalks = m .crosswalks;\n      rules = m .rules ++',
-     'next = fresh m;\n      lanes = m .lanes;\n      boundaries = m .boundaries;\n      stopLines = m .stopLines;\n      signals = m .signals;\n      crosswalks = m .crosswalks;\n      rules = m .rules ++'),
-    ('line numbered 1', 'map/specs/Rows', 'stopLines = m .stopLines ++ (record { num = fresh m; geometry', 'stopLines = m .stopLines ++ (record { num = 1; geometry'),
-    ('number skipped', 'map/specs/Rows', 'fresh m = max 1 (m .next)', 'fresh m = suc (max 1 (m .next))'),
+     'next = suc (fresh m);\n      lanes = m.lanes;\n      boundaries = m.boundaries;\n      stop_lines = m.stop_lines;\n      signals = m.signals;\n      crosswalks = m.crosswalks;\n      rules = m.rules ++',
+     'next = fresh m;\n      lanes = m.lanes;\n      boundaries = m.boundaries;\n      stop_lines = m.stop_lines;\n      signals = m.signals;\n      crosswalks = m.crosswalks;\n      rules = m.rules ++'),
+    ('line numbered 1', 'map/specs/Rows', 'stop_lines = m.stop_lines ++ (record { num = fresh m; geometry', 'stop_lines = m.stop_lines ++ (record { num = 1; geometry'),
+    ('number skipped', 'map/specs/Rows', 'fresh m = max 1 m.next', 'fresh m = suc (max 1 m.next)'),
     # ---- records that no set names
     ('a line drops the signals', 'map/specs/Rows',
-     'stopLines = m .stopLines ++ (record { num = fresh m; geometry = xs } ∷ []);\n      signals = m .signals;',
-     'stopLines = m .stopLines ++ (record { num = fresh m; geometry = xs } ∷ []);\n      signals = [];'),
+     'stop_lines = m.stop_lines ++ (record { num = fresh m; geometry = xs } ∷ []);\n      signals = m.signals;',
+     'stop_lines = m.stop_lines ++ (record { num = fresh m; geometry = xs } ∷ []);\n      signals = [];'),
     ('a rule written over all rules', 'rows/specs/Table', 'replaced a (x ∷ xs) = cond (eqb (num x) (num a)) a x ∷ replaced a xs', 'replaced a (x ∷ xs) = a ∷ replaced a xs'),
-    ('group not named', 'edit/specs/Light', 'modified = d .modified ++ (entity 8 (r .num) ∷ []);', 'modified = d .modified;'),
+    ('group not named', 'edit/specs/Light', 'modified = d.modified ++ (entity 8 r.num ∷ []);', 'modified = d.modified;'),
     # ---- the light's line and its stop rules
-    ('lifts only under a line that stood', 'edit/specs/Light', 'liftAll (a .lanes) three (one .line) in',
-     'liftAll (a .lanes) three (elim (p .plan) [ use-line s ↦ some s | use-none ↦ none | draw x ↦ none ]) in'),
-    ('signs of another type lifted', 'edit/specs/Light', 'isStopAt s (sign type shape (some line)) = eqb type 1 && eqb line s', 'isStopAt s (sign type shape (some line)) = eqb type 2 && eqb line s'),
-    ('markings not lifted', 'edit/specs/Light', 'isStopAt s (marking line) = eqb line s', 'isStopAt s (marking line) = false'),
-    ('lanes not taken off', 'edit/specs/Light', 'lifted r (eased ks) = ruleWith r (r .body) ks (r .controlled) ∷ []', 'lifted r (eased ks) = r ∷ []'),
-    ('crosswalk rule\'s line taken as the lane\'s', 'edit/specs/Light', 'stopsAt (crossing c stopLines) = none', 'stopsAt (crossing c []) = none\nstopsAt (crossing c (l ∷ ls)) = some l'),
-    ('only stop signs\' lines found', 'edit/specs/Light', 'stopsAt (sign type shape line) = line', 'stopsAt (sign type shape line) = cond (eqb type 1) line none'),
-    ('line found on any lane', 'edit/specs/Light', 'existingStopLine m n = firstOf (λ r. cond (member n (r .lanes)) (stopsAt (r .body)) none) (m .rules)', 'existingStopLine m n = firstOf (λ r. stopsAt (r .body)) (m .rules)'),
-    ('line sought on the second lane', 'edit/specs/Light', 'autoPlan m lanes (orElse group (existingStopLine m (getD lanes 0 0)))', 'autoPlan m lanes (orElse group (existingStopLine m (getD lanes 1 0)))'),
-    ('group\'s line passed over', 'edit/specs/Light', 'autoPlan m lanes (orElse group (existingStopLine m (getD lanes 0 0)))', 'autoPlan m lanes (existingStopLine m (getD lanes 0 0))'),
-    ('lane\'s line before the group\'s', 'edit/specs/Light', 'autoPlan m lanes (orElse group (existingStopLine m (getD lanes 0 0)))', 'autoPlan m lanes (orElse (existingStopLine m (getD lanes 0 0)) group)'),
-    ('group\'s line is no line', 'edit/specs/Light', 'lightLine (light signals line) = done line', 'lightLine (light signals line) = done none'),
-    ('automatic always draws', 'edit/specs/Light', 'autoPlan m lanes (some s) = done (use-line s)', 'autoPlan m lanes (some s) = drawPlan m lanes (AtLaneEnd f0) []'),
-    ('existing line not taken', 'edit/specs/Light', 'planFor m lanes group (Existing s) cs = done (use-line s)', 'planFor m lanes group (Existing s) cs = done use-none'),
-    ('no line though the group has one', 'edit/specs/Light', 'planFor m lanes group NoLine cs = done (ownPlan group)', 'planFor m lanes group NoLine cs = done use-none'),
-    ('no line lifts nothing', 'edit/specs/Light', 'liftAll (a .lanes) three (one .line) in',
-     'liftAll (a .lanes) three (elim (a .choice) [ Automatic ↦ one .line | Existing s ↦ one .line | New how ↦ one .line | NoLine ↦ none ]) in'),
-    ('a new line beside the group\'s', 'edit/specs/Light', 'checkChoice m group (New how) = checkNew group', 'checkChoice m group (New how) = done tt'),
+    ('lifts only under a line that stood', 'edit/specs/Light', 'lift_all a.lanes three one.line in',
+     'lift_all a.lanes three (elim p.plan [ use_line s ↦ some s | use_none ↦ none | draw x ↦ none ]) in'),
+    ('signs of another type lifted', 'edit/specs/Light', 'is_stop_at s (sign type shape (some line)) = eqb type 1 && eqb line s', 'is_stop_at s (sign type shape (some line)) = eqb type 2 && eqb line s'),
+    ('markings not lifted', 'edit/specs/Light', 'is_stop_at s (marking line) = eqb line s', 'is_stop_at s (marking line) = false'),
+    ('lanes not taken off', 'edit/specs/Light', 'lifted r (eased ks) = rule_with r r.body ks r.controlled ∷ []', 'lifted r (eased ks) = r ∷ []'),
+    ('crosswalk rule\'s line taken as the lane\'s', 'edit/specs/Light', 'stops_at (crossing c stop_lines) = none', 'stops_at (crossing c []) = none\nstops_at (crossing c (l ∷ ls)) = some l'),
+    ('only stop signs\' lines found', 'edit/specs/Light', 'stops_at (sign type shape line) = line', 'stops_at (sign type shape line) = cond (eqb type 1) line none'),
+    ('line found on any lane', 'edit/specs/Light', 'existing_stop_line m n = first_of (λ r. cond (member n r.lanes) (stops_at r.body) none) m.rules', 'existing_stop_line m n = first_of (λ r. stops_at r.body) m.rules'),
+    ('line sought on the second lane', 'edit/specs/Light', 'auto_plan m lanes (or_else group (existing_stop_line m (get_or lanes 0 0)))', 'auto_plan m lanes (or_else group (existing_stop_line m (get_or lanes 1 0)))'),
+    ('group\'s line passed over', 'edit/specs/Light', 'auto_plan m lanes (or_else group (existing_stop_line m (get_or lanes 0 0)))', 'auto_plan m lanes (existing_stop_line m (get_or lanes 0 0))'),
+    ('lane\'s line before the group\'s', 'edit/specs/Light', 'auto_plan m lanes (or_else group (existing_stop_line m (get_or lanes 0 0)))', 'auto_plan m lanes (or_else (existing_stop_line m (get_or lanes 0 0)) group)'),
+    ('group\'s line is no line', 'edit/specs/Light', 'light_line (light signals line) = done line', 'light_line (light signals line) = done none'),
+    ('automatic always draws', 'edit/specs/Light', 'auto_plan m lanes (some s) = done (use_line s)', 'auto_plan m lanes (some s) = draw_plan m lanes (AtLaneEnd f0) []'),
+    ('existing line not taken', 'edit/specs/Light', 'plan_for m lanes group (Existing s) cs = done (use_line s)', 'plan_for m lanes group (Existing s) cs = done use_none'),
+    ('no line though the group has one', 'edit/specs/Light', 'plan_for m lanes group NoLine cs = done (own_plan group)', 'plan_for m lanes group NoLine cs = done use_none'),
+    ('no line lifts nothing', 'edit/specs/Light', 'lift_all a.lanes three one.line in',
+     'lift_all a.lanes three (elim a.choice [ Automatic ↦ one.line | Existing s ↦ one.line | New how ↦ one.line | NoLine ↦ none ]) in'),
+    ('a new line beside the group\'s', 'edit/specs/Light', 'check_choice m group (New how) = check_new group', 'check_choice m group (New how) = done tt'),
     ('group\'s line replaced by the light\'s', 'edit/specs/Light',
-     'extended (light signals line) n s = light (signals ++ (n ∷ [])) (orElse line s)', 'extended (light signals line) n s = light (signals ++ (n ∷ [])) (orElse s line)',
+     'extended (light signals line) n s = light (signals ++ (n ∷ [])) (or_else line s)', 'extended (light signals line) n s = light (signals ++ (n ∷ [])) (or_else s line)',
      'where both are there they are the same line'),
     # ---- the law's own words, against the edit
-    ('law: own line of a crosswalk rule', 'run/specs/Law', 'ownLine (crossing c ls) = none', 'ownLine (crossing c ls) = some c'),
-    ('law: line of a rule on no such lane', 'run/specs/Law', 'cond (member n (r .lanes)) (orNext (ownLine (r .body)) rest) rest', 'orNext (ownLine (r .body)) rest'),
-    ('law: line of any rule as the group\'s', 'run/specs/Law', 'cond (eqb (r .num) n) (ownLine (r .body)) rest', 'orNext (ownLine (r .body)) rest'),
-    ('law: group without a line', 'run/specs/Law', 'groupsLine (some g) rs = lineOfRule g rs', 'groupsLine (some g) rs = none'),
-    ('law: line of the second lane', 'run/specs/Law', 'firstLanesLine (n ∷ ns) rs = lineOnLane n rs', 'firstLanesLine (n ∷ ns) rs = firstLanesLine ns rs'),
-    ('law: new line numbered otherwise', 'run/specs/Law', '(max 1 (m .next)) (groupsLine', '(m .next + 1) (groupsLine'),
-    ('law: automatic is new', 'run/specs/Law', 'chosenLine Automatic drawn own found = some (foundOr drawn (orNext own found))', 'chosenLine Automatic drawn own found = some drawn'),
-    ('law: halt line of every sign', 'run/specs/Law', 'haltLine (sign type shape l) = cond (eqb type 1) l none', 'haltLine (sign type shape l) = l'),
-    ('law: a set names what it lists as created', 'run/specs/Law', 'names c a = listed (c .created) a || listed (c .modified) a || listed (c .deleted) a', 'names c a = listed (c .created) a'),
-    ('law: numbers rise from 0 per call', 'run/specs/Law', 'handed c = map (λ a. a .num) (c .created)', 'handed c = 0 ∷ map (λ a. a .num) (c .created)'),
+    ('law: own line of a crosswalk rule', 'run/specs/Law', 'own_line (crossing c ls) = none', 'own_line (crossing c ls) = some c'),
+    ('law: line of a rule on no such lane', 'run/specs/Law', 'cond (member n r.lanes) (or_next (own_line r.body) rest) rest', 'or_next (own_line r.body) rest'),
+    ('law: line of any rule as the group\'s', 'run/specs/Law', 'cond (eqb r.num n) (own_line r.body) rest', 'or_next (own_line r.body) rest'),
+    ('law: group without a line', 'run/specs/Law', 'groups_line (some g) rs = line_of_rule g rs', 'groups_line (some g) rs = none'),
+    ('law: line of the second lane', 'run/specs/Law', 'first_lanes_line (n ∷ ns) rs = line_on_lane n rs', 'first_lanes_line (n ∷ ns) rs = first_lanes_line ns rs'),
+    ('law: new line numbered otherwise', 'run/specs/Law', '(max 1 m.next) (groups_line', '(m.next + 1) (groups_line'),
+    ('law: automatic is new', 'run/specs/Law', 'chosen_line Automatic drawn own found = some (found_or drawn (or_next own found))', 'chosen_line Automatic drawn own found = some drawn'),
+    ('law: halt line of every sign', 'run/specs/Law', 'halt_line (sign type shape l) = cond (eqb type 1) l none', 'halt_line (sign type shape l) = l'),
+    ('law: a set names what it lists as created', 'run/specs/Law', 'names c a = listed c.created a || listed c.modified a || listed c.deleted a', 'names c a = listed c.created a'),
+    ('law: numbers rise from 0 per call', 'run/specs/Law', 'handed c = map (λ a. a.num) c.created', 'handed c = 0 ∷ map (λ a. a.num) c.created'),
 ]
 
 
-REFERENCE = re.compile(r'Rattle·(\w+?)(?:·(?:specs|proofs))?\.(specs|proofs)\.(?:declared\.)?([A-Z]\w*)')
+REFERENCE = re.compile(r'Rattle\.(\w+)\.(specs|proofs)\.(?:declared\.)?([A-Z]\w*)')
 # a type of a crate's library, or of one of its source files
-DECLARED = re.compile(r'Rattle·(\w+?)(?:·specs)?\.specs\.declared\.(?:([a-z]\w*)\.)?([A-Z]\w*)')
+DECLARED = re.compile(r'Rattle\.(\w+)\.specs\.declared\.(?:([a-z]\w*)\.)?([A-Z]\w*)')
+USE = re.compile(r'^use ([\w:]+)::\{([^{}]*)\};', re.M)
 TYPE = re.compile(r'^pub (?:struct|enum) (\w+).*?^}\n', re.M | re.S)
 
 
 def read(path):
     with open(path) as file:
         return file.read()
+
+
+def each_use(text):
+    """The text with a line for each name of a `use`."""
+    return USE.sub(lambda m: '\n'.join('use %s::%s;' % (m.group(1), name.strip()) for name in m.group(2).split(',') if name.strip()), text)
 
 
 def law_alone(here, root):
@@ -137,7 +143,7 @@ def law_alone(here, root):
         types |= {(crate, file or 'lib', name) for crate, file, name in DECLARED.findall(text)}
     crates = {crate for crate, _, _ in modules} | {crate for crate, _, _ in types}
     files = {(crate, 'lib') for crate in crates} | {(crate, file) for crate, file, _ in types}
-    library = {(crate, file): read('%s/crates/%s/src/%s.rt' % (here, crate, file)) for crate, file in files}
+    library = {(crate, file): each_use(read('%s/crates/%s/src/%s.rt' % (here, crate, file))) for crate, file in files}
     blocks = {at: {m.group(1): m.group(0) for m in TYPE.finditer(text)} for at, text in library.items()}
     grown = None
     while grown != types:
@@ -171,10 +177,12 @@ def law_alone(here, root):
 
 
 def broken(text):
-    """The proofs that broke, and whether a definition did."""
-    at = re.findall(r'/(\w+)/(specs|proofs)/([\w/]+)\.antt:\d+:\d+: error: `([^`]+)`(?!: `[^`]+` was not admitted)', text)
-    names = list(dict.fromkeys('%s/%s.%s' % (crate, module, name) for crate, kind, module, name in at if kind == 'proofs'))
-    faults = [name for _, kind, _, name in at if kind == 'specs']
+    """The proofs that broke, of the crate that was being proved, and the definitions that did."""
+    below = re.search(r'^rt: the library (\w+) did not build', text, re.M)
+    crate = below.group(1) if below else 'run'
+    at = re.findall(r'^(?:\./)?(specs|proofs)/([\w/]+)\.antt:\d+:\d+: error: `([^`]+)`(?!: `[^`]+` was not admitted)', text, re.M)
+    names = list(dict.fromkeys('%s/%s.%s' % (crate, module, name) for kind, module, name in at if kind == 'proofs'))
+    faults = [name for kind, _, name in at if kind == 'specs']
     return names, faults
 
 
@@ -184,7 +192,7 @@ def main(words):
     with tempfile.TemporaryDirectory() as made:
         root = made + '/copy'
         law_alone(here, root)
-        first = subprocess.run(['rt', 'dev', 'run'], cwd=root, capture_output=True, text=True)
+        first = subprocess.run(['rt', 'check'], cwd=root + '/crates/run', capture_output=True, text=True)
         if first.returncode:
             sys.exit('the law is not proved as it stands:\n' + first.stdout + first.stderr)
         for edit in EDITS:
@@ -199,7 +207,7 @@ def main(words):
                 unexpected += 1
                 continue
             open(path, 'w').write(text.replace(old, new))
-            done = subprocess.run(['rt', 'dev', 'run'], cwd=root, capture_output=True, text=True)
+            done = subprocess.run(['rt', 'check'], cwd=root + '/crates/run', capture_output=True, text=True)
             open(path, 'w').write(text)
             names, faults = broken(done.stdout + done.stderr)
             if done.returncode and not faults and names:
