@@ -15,7 +15,7 @@ pub fold_ok-requires : goal.fold_ok-requires
 fold_ok-requires c = L.words_sized _ _ [] c.args.tally [] _ c.is_map.ensures (ap not c.if-not-is_map.false)
 
 pub returns-then-not-fold_ok : goal.returns-then-not-fold_ok
-returns-then-not-fold_ok c = L.no_fold _ _ _ _ _ _ c.is_map.ensures (ap not c.if-not-is_map.false) c.if-set-ne-WORDS.false _ c.before.fold_ok_lem.ensures c.if-not-fold_ok.true
+returns-then-not-fold_ok c = L.no_fold _ _ _ _ _ _ c.is_map.ensures (ap not c.if-not-is_map.false) c.if-set-ne-WORDS.false _ c.fold_ok.ensures (ap not c.if-not-fold_ok.true)
 
 pub returns : goal.returns
-returns c = L.all_fine _ _ _ _ _ _ c.is_map.ensures (ap not c.if-not-is_map.false) c.if-set-ne-WORDS.false _ c.before.fold_ok_lem.ensures c.if-not-fold_ok.false
+returns c = L.all_fine _ _ _ _ _ _ c.is_map.ensures (ap not c.if-not-is_map.false) c.if-set-ne-WORDS.false _ c.fold_ok.ensures (ap not c.if-not-fold_ok.false)
