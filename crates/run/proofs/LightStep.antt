@@ -182,6 +182,7 @@ module _ (l : Option ℕ) (lanes : List ℕ) (pre : Rule → Option Rule) where
   touched_by x f b = go (pre x) refl b
     where
       go : (o : Option Rule) → pre x ≡ o → Before x o → (differ (some (rule.write x)) (form_in rule.write o) || at (eased_by l lanes) o) ≡ differ (some (rule.write x)) (form_in rule.write (from_some o (lift_by l lanes)))
+      go none e b' = elim b' [ ]
       go (some y) e as_was = rw (differ_self (some (rule.write x))) (eased_shows l x f)
       go (some y) e (lit i s) = rw (light_stays l lanes y i, light_uneased l lanes y i) (or_no (differ (some (rule.write x)) (some (rule.write y))))
 
@@ -189,6 +190,7 @@ module _ (l : Option ℕ) (lanes : List ℕ) (pre : Rule → Option Rule) where
   gone_by_lem x b = go (pre x) b
     where
       go : (o : Option Rule) → Before x o → at (gone_by l lanes) o ≡ not (is_some (from_some o (lift_by l lanes)))
+      go none b' = elim b' [ ]
       go (some y) as_was = gone_shows l y
       go (some y) (lit i s) = gone_shows l y
 

@@ -5,43 +5,43 @@ use native.Mathlib.Omega.{arith}
 use Rattle.links.proofs.set_regulatory_links.Goals as goal
 
 pub returns-in-Refused : goal.returns-in-Refused
-returns-in-Refused c = K.lent_turned_down _ _ _ _ _ (rule_links c.args.rule c.args.lanes.now c.args.crosswalks.now c.args.stop-lines.now) _ c.check_lent-lent.ensures _ c.in-Refused.is _ _ c.refused.ensures
+returns-in-Refused c = K.lent_turned_down _ _ _ _ _ (rule_links c.args.rule c.args.lanes.now c.args.crosswalks.now c.args.stop_lines.now) _ c.check_lent-lent.ensures _ c.in-Refused.is _ _ c.refused.ensures
 
 pub check_links-known-requires : goal.check_links-known-requires
-check_links-known-requires c = (K.known _ _ _ _ _ (K.is_fine _ _ _ _ _ (rule_links c.args.rule c.args.lanes.now c.args.crosswalks.now c.args.stop-lines.now) _ c.check_lent-lent.ensures c.in_default.is)).sound.sized.words
+check_links-known-requires c = (K.known _ _ _ _ _ (K.is_fine _ _ _ _ _ (rule_links c.args.rule c.args.lanes.now c.args.crosswalks.now c.args.stop_lines.now) _ c.check_lent-lent.ensures c.in_default.is)).sound.sized.words
 
 pub returns-in-Refused-known : goal.returns-in-Refused-known
-returns-in-Refused-known c = K.links_turned_down _ _ _ _ _ (rule_links c.args.rule c.args.lanes.now c.args.crosswalks.now c.args.stop-lines.now) _ c.check_lent-lent.ensures c.in_default.is _ c.check_links-known.ensures _ c.in-Refused-known.is _ _ c.refused-in-Refused-known.ensures
+returns-in-Refused-known c = K.links_turned_down _ _ _ _ _ (rule_links c.args.rule c.args.lanes.now c.args.crosswalks.now c.args.stop_lines.now) _ c.check_lent-lent.ensures c.in_default.is _ c.check_links-known.ensures _ c.in-Refused-known.is _ _ c.refused-in-Refused-known.ensures
 
 pub sorted_of-a-requires : goal.sorted_of-a-requires
-sorted_of-a-requires c = ((K.few _ _ _ _ _ (rule_links c.args.rule c.args.lanes.now c.args.crosswalks.now c.args.stop-lines.now) _ c.check_lent-lent.ensures c.in_default.is _ c.check_links-known.ensures c.in_default-known.is).0, (K.lists_passed _ _ _ _ _ (rule_links c.args.rule c.args.lanes.now c.args.crosswalks.now c.args.stop-lines.now) _ c.check_lent-lent.ensures c.in_default.is _ c.check_links-known.ensures c.in_default-known.is).lanes_once)
+sorted_of-a-requires c = ((K.few _ _ _ _ _ (rule_links c.args.rule c.args.lanes.now c.args.crosswalks.now c.args.stop_lines.now) _ c.check_lent-lent.ensures c.in_default.is _ c.check_links-known.ensures c.in_default-known.is).0, (K.lists_passed _ _ _ _ _ (rule_links c.args.rule c.args.lanes.now c.args.crosswalks.now c.args.stop_lines.now) _ c.check_lent-lent.ensures c.in_default.is _ c.check_links-known.ensures c.in_default-known.is).lanes_once)
 
 pub sorted_of-b-requires : goal.sorted_of-b-requires
-sorted_of-b-requires c = (omega (arith, (K.few _ _ _ _ _ (rule_links c.args.rule c.args.lanes.now c.args.crosswalks.now c.args.stop-lines.now) _ c.check_lent-lent.ensures c.in_default.is _ c.check_links-known.ensures c.in_default-known.is).1), (K.lists_passed _ _ _ _ _ (rule_links c.args.rule c.args.lanes.now c.args.crosswalks.now c.args.stop-lines.now) _ c.check_lent-lent.ensures c.in_default.is _ c.check_links-known.ensures c.in_default-known.is).crosswalks_once)
+sorted_of-b-requires c = (omega (arith, (K.few _ _ _ _ _ (rule_links c.args.rule c.args.lanes.now c.args.crosswalks.now c.args.stop_lines.now) _ c.check_lent-lent.ensures c.in_default.is _ c.check_links-known.ensures c.in_default-known.is).1), (K.lists_passed _ _ _ _ _ (rule_links c.args.rule c.args.lanes.now c.args.crosswalks.now c.args.stop_lines.now) _ c.check_lent-lent.ensures c.in_default.is _ c.check_links-known.ensures c.in_default-known.is).crosswalks_once)
 
 pub sorted_of-c-requires : goal.sorted_of-c-requires
-sorted_of-c-requires c = ((K.few _ _ _ _ _ (rule_links c.args.rule c.args.lanes.now c.args.crosswalks.now c.args.stop-lines.now) _ c.check_lent-lent.ensures c.in_default.is _ c.check_links-known.ensures c.in_default-known.is).2, (K.lists_passed _ _ _ _ _ (rule_links c.args.rule c.args.lanes.now c.args.crosswalks.now c.args.stop-lines.now) _ c.check_lent-lent.ensures c.in_default.is _ c.check_links-known.ensures c.in_default-known.is).lines_once)
+sorted_of-c-requires c = ((K.few _ _ _ _ _ (rule_links c.args.rule c.args.lanes.now c.args.crosswalks.now c.args.stop_lines.now) _ c.check_lent-lent.ensures c.in_default.is _ c.check_links-known.ensures c.in_default-known.is).2, (K.lists_passed _ _ _ _ _ (rule_links c.args.rule c.args.lanes.now c.args.crosswalks.now c.args.stop_lines.now) _ c.check_lent-lent.ensures c.in_default.is _ c.check_links-known.ensures c.in_default-known.is).lines_once)
 
 pub slice_bounds-x-end : goal.slice_bounds-x-end
-slice_bounds-x-end c = K.sorted_inside _ _ c.sorted_of-a.ensures (K.few _ _ _ _ _ (rule_links c.args.rule c.args.lanes.now c.args.crosswalks.now c.args.stop-lines.now) _ c.check_lent-lent.ensures c.in_default.is _ c.check_links-known.ensures c.in_default-known.is).0 (K.lists_passed _ _ _ _ _ (rule_links c.args.rule c.args.lanes.now c.args.crosswalks.now c.args.stop-lines.now) _ c.check_lent-lent.ensures c.in_default.is _ c.check_links-known.ensures c.in_default-known.is).lanes_once
+slice_bounds-x-end c = K.sorted_inside _ _ c.sorted_of-a.ensures (K.few _ _ _ _ _ (rule_links c.args.rule c.args.lanes.now c.args.crosswalks.now c.args.stop_lines.now) _ c.check_lent-lent.ensures c.in_default.is _ c.check_links-known.ensures c.in_default-known.is).0 (K.lists_passed _ _ _ _ _ (rule_links c.args.rule c.args.lanes.now c.args.crosswalks.now c.args.stop_lines.now) _ c.check_lent-lent.ensures c.in_default.is _ c.check_links-known.ensures c.in_default-known.is).lanes_once
 
 pub slice_bounds-link_rule-end : goal.slice_bounds-link_rule-end
-slice_bounds-link_rule-end c = K.sorted_part _ _ c.sorted_of-a.ensures (K.few _ _ _ _ _ (rule_links c.args.rule c.args.lanes.now c.args.crosswalks.now c.args.stop-lines.now) _ c.check_lent-lent.ensures c.in_default.is _ c.check_links-known.ensures c.in_default-known.is).0 (K.lists_passed _ _ _ _ _ (rule_links c.args.rule c.args.lanes.now c.args.crosswalks.now c.args.stop-lines.now) _ c.check_lent-lent.ensures c.in_default.is _ c.check_links-known.ensures c.in_default-known.is).lanes_once
+slice_bounds-link_rule-end c = K.sorted_part _ _ c.sorted_of-a.ensures (K.few _ _ _ _ _ (rule_links c.args.rule c.args.lanes.now c.args.crosswalks.now c.args.stop_lines.now) _ c.check_lent-lent.ensures c.in_default.is _ c.check_links-known.ensures c.in_default-known.is).0 (K.lists_passed _ _ _ _ _ (rule_links c.args.rule c.args.lanes.now c.args.crosswalks.now c.args.stop_lines.now) _ c.check_lent-lent.ensures c.in_default.is _ c.check_links-known.ensures c.in_default-known.is).lanes_once
 
 pub slice_bounds-y-end : goal.slice_bounds-y-end
-slice_bounds-y-end c = K.sorted_inside c.args.crosswalks.now _ c.sorted_of-b.ensures (omega (arith, (K.few _ _ _ _ _ (rule_links c.args.rule c.args.lanes.now c.args.crosswalks.now c.args.stop-lines.now) _ c.check_lent-lent.ensures c.in_default.is _ c.check_links-known.ensures c.in_default-known.is).1)) (K.lists_passed _ _ _ _ _ (rule_links c.args.rule c.args.lanes.now c.args.crosswalks.now c.args.stop-lines.now) _ c.check_lent-lent.ensures c.in_default.is _ c.check_links-known.ensures c.in_default-known.is).crosswalks_once
+slice_bounds-y-end c = K.sorted_inside c.args.crosswalks.now _ c.sorted_of-b.ensures (omega (arith, (K.few _ _ _ _ _ (rule_links c.args.rule c.args.lanes.now c.args.crosswalks.now c.args.stop_lines.now) _ c.check_lent-lent.ensures c.in_default.is _ c.check_links-known.ensures c.in_default-known.is).1)) (K.lists_passed _ _ _ _ _ (rule_links c.args.rule c.args.lanes.now c.args.crosswalks.now c.args.stop_lines.now) _ c.check_lent-lent.ensures c.in_default.is _ c.check_links-known.ensures c.in_default-known.is).crosswalks_once
 
 pub slice_bounds-link_rule-end-2 : goal.slice_bounds-link_rule-end-2
-slice_bounds-link_rule-end-2 c = K.sorted_part c.args.crosswalks.now _ c.sorted_of-b.ensures (omega (arith, (K.few _ _ _ _ _ (rule_links c.args.rule c.args.lanes.now c.args.crosswalks.now c.args.stop-lines.now) _ c.check_lent-lent.ensures c.in_default.is _ c.check_links-known.ensures c.in_default-known.is).1)) (K.lists_passed _ _ _ _ _ (rule_links c.args.rule c.args.lanes.now c.args.crosswalks.now c.args.stop-lines.now) _ c.check_lent-lent.ensures c.in_default.is _ c.check_links-known.ensures c.in_default-known.is).crosswalks_once
+slice_bounds-link_rule-end-2 c = K.sorted_part c.args.crosswalks.now _ c.sorted_of-b.ensures (omega (arith, (K.few _ _ _ _ _ (rule_links c.args.rule c.args.lanes.now c.args.crosswalks.now c.args.stop_lines.now) _ c.check_lent-lent.ensures c.in_default.is _ c.check_links-known.ensures c.in_default-known.is).1)) (K.lists_passed _ _ _ _ _ (rule_links c.args.rule c.args.lanes.now c.args.crosswalks.now c.args.stop_lines.now) _ c.check_lent-lent.ensures c.in_default.is _ c.check_links-known.ensures c.in_default-known.is).crosswalks_once
 
 pub slice_bounds-z-end : goal.slice_bounds-z-end
-slice_bounds-z-end c = K.sorted_inside _ _ c.sorted_of-c.ensures (K.few _ _ _ _ _ (rule_links c.args.rule c.args.lanes.now c.args.crosswalks.now c.args.stop-lines.now) _ c.check_lent-lent.ensures c.in_default.is _ c.check_links-known.ensures c.in_default-known.is).2 (K.lists_passed _ _ _ _ _ (rule_links c.args.rule c.args.lanes.now c.args.crosswalks.now c.args.stop-lines.now) _ c.check_lent-lent.ensures c.in_default.is _ c.check_links-known.ensures c.in_default-known.is).lines_once
+slice_bounds-z-end c = K.sorted_inside _ _ c.sorted_of-c.ensures (K.few _ _ _ _ _ (rule_links c.args.rule c.args.lanes.now c.args.crosswalks.now c.args.stop_lines.now) _ c.check_lent-lent.ensures c.in_default.is _ c.check_links-known.ensures c.in_default-known.is).2 (K.lists_passed _ _ _ _ _ (rule_links c.args.rule c.args.lanes.now c.args.crosswalks.now c.args.stop_lines.now) _ c.check_lent-lent.ensures c.in_default.is _ c.check_links-known.ensures c.in_default-known.is).lines_once
 
 pub slice_bounds-link_rule-end-3 : goal.slice_bounds-link_rule-end-3
-slice_bounds-link_rule-end-3 c = K.sorted_part _ _ c.sorted_of-c.ensures (K.few _ _ _ _ _ (rule_links c.args.rule c.args.lanes.now c.args.crosswalks.now c.args.stop-lines.now) _ c.check_lent-lent.ensures c.in_default.is _ c.check_links-known.ensures c.in_default-known.is).2 (K.lists_passed _ _ _ _ _ (rule_links c.args.rule c.args.lanes.now c.args.crosswalks.now c.args.stop-lines.now) _ c.check_lent-lent.ensures c.in_default.is _ c.check_links-known.ensures c.in_default-known.is).lines_once
+slice_bounds-link_rule-end-3 c = K.sorted_part _ _ c.sorted_of-c.ensures (K.few _ _ _ _ _ (rule_links c.args.rule c.args.lanes.now c.args.crosswalks.now c.args.stop_lines.now) _ c.check_lent-lent.ensures c.in_default.is _ c.check_links-known.ensures c.in_default-known.is).2 (K.lists_passed _ _ _ _ _ (rule_links c.args.rule c.args.lanes.now c.args.crosswalks.now c.args.stop_lines.now) _ c.check_lent-lent.ensures c.in_default.is _ c.check_links-known.ensures c.in_default-known.is).lines_once
 
 pub link_rule-requires : goal.link_rule-requires
-link_rule-requires c = K.is_fine _ _ _ _ _ (rule_links c.args.rule c.args.lanes.now c.args.crosswalks.now c.args.stop-lines.now) _ c.check_lent-lent.ensures c.in_default.is
+link_rule-requires c = K.is_fine _ _ _ _ _ (rule_links c.args.rule c.args.lanes.now c.args.crosswalks.now c.args.stop_lines.now) _ c.check_lent-lent.ensures c.in_default.is
 
 pub returns : goal.returns
-returns c = K.call_left _ _ _ _ _ (rule_links c.args.rule c.args.lanes.now c.args.crosswalks.now c.args.stop-lines.now) _ c.check_lent-lent.ensures c.in_default.is _ c.check_links-known.ensures c.in_default-known.is _ _ _ c.sorted_of-a.ensures.list c.sorted_of-b.ensures.list c.sorted_of-c.ensures.list _ _ c.link_rule.ensures
+returns c = K.call_left _ _ _ _ _ (rule_links c.args.rule c.args.lanes.now c.args.crosswalks.now c.args.stop_lines.now) _ c.check_lent-lent.ensures c.in_default.is _ c.check_links-known.ensures c.in_default-known.is _ _ _ c.sorted_of-a.ensures.list c.sorted_of-b.ensures.list c.sorted_of-c.ensures.list _ _ c.link_rule.ensures

@@ -1,4 +1,6 @@
 -- `stop_lines::plan::fitted` meets its contract. Assumes nothing.
+use mathlib.Core.Bool.{not}
+use mathlib.Core.Path.{ap}
 use native.Mathlib.Omega.{arith}
 use Rattle.place.proofs.LineLaws.{part_long}
 use Rattle.stop_lines.proofs.PlanLaws as P
@@ -17,10 +19,10 @@ pub stored_ok-requires : goal.stored_ok-requires
 stored_ok-requires c = P.part_thirds c.args.placed.line c.requires.2
 
 pub returns-then-not-stored_ok : goal.returns-then-not-stored_ok
-returns-then-not-stored_ok c = P.end_off c.args.placed.line c.requires.2 _ _ _ _ _ _ c.stored_ok.ensures c.if-not-stored_ok.true
+returns-then-not-stored_ok c = P.end_off c.args.placed.line c.requires.2 _ _ _ _ _ _ c.stored_ok.ensures (ap not c.if-not-stored_ok.true)
 
 pub returns-then-not-room : goal.returns-then-not-room
-returns-then-not-room c = P.end_full c.args.placed.line c.requires.2 _ _ _ _ _ _ c.stored_ok.ensures c.if-not-stored_ok.false _ c.room.ensures c.if-not-room.true
+returns-then-not-room c = P.end_full c.args.placed.line c.requires.2 _ _ _ _ _ _ c.stored_ok.ensures (ap not c.if-not-stored_ok.false) _ c.room.ensures c.if-not-room.true
 
 pub returns : goal.returns
-returns c = P.end_fine c.args.placed.line c.requires.2 _ _ _ _ _ _ c.stored_ok.ensures c.if-not-stored_ok.false _ c.room.ensures c.if-not-room.false
+returns c = P.end_fine c.args.placed.line c.requires.2 _ _ _ _ _ _ c.stored_ok.ensures (ap not c.if-not-stored_ok.false) _ c.room.ensures c.if-not-room.false
