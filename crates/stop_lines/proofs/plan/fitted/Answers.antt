@@ -22,7 +22,7 @@ pub returns-then-not-stored_ok : goal.returns-then-not-stored_ok
 returns-then-not-stored_ok c = P.end_off c.args.placed.line c.requires.2 _ _ _ _ _ _ c.stored_ok.ensures (ap not c.if-not-stored_ok.true)
 
 pub returns-then-not-room : goal.returns-then-not-room
-returns-then-not-room c = P.end_full c.args.placed.line c.requires.2 _ _ _ _ _ _ c.stored_ok.ensures (ap not c.if-not-stored_ok.false) _ c.room.ensures c.if-not-room.true
+returns-then-not-room c = P.end_full c.args.placed.line c.requires.2 _ _ _ _ _ _ c.stored_ok.ensures (ap not c.if-not-stored_ok.false) _ c.room.ensures (ap not c.if-not-room.true)
 
 pub returns : goal.returns
-returns c = P.end_fine c.args.placed.line c.requires.2 _ _ _ _ _ _ c.stored_ok.ensures (ap not c.if-not-stored_ok.false) _ c.room.ensures c.if-not-room.false
+returns c = P.end_fine c.args.placed.line c.requires.2 _ _ _ _ _ _ c.stored_ok.ensures (ap not c.if-not-stored_ok.false) _ c.room.ensures (ap not c.if-not-room.false)
