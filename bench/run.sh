@@ -5,7 +5,7 @@
 # beside the Rust, timed), runs (random runs in one call, from a map file to its change set file and on open tables, against the Rust's runs),
 # files (random and damaged map and set files against a codec written from document 01), file_times (files beside that codec,
 # timed), validity (the test of a map's tables, beside the Rust's edits), stack (how much stack each call needs),
-# requests (random requests with the Rust's answers, for target/bin/geometry_replay FILE).
+# requests (random requests with the Rust's answers, for crates/geometry_replay/out/geometry_replay FILE).
 set -eu
 cd "$(dirname "$0")/.."
 mkdir -p target/staticlib

@@ -3,17 +3,8 @@ use Rattle.std.proofs.Common.{sym, ◌∙◌, arith}
 use Rattle.map.proofs.SoundLaws.{sound}
 use Rattle.tables_filled.proofs.drop_first.Goals as goal
 
-pub returns-then-not-is_map : goal.returns-then-not-is_map
-returns-then-not-is_map c = tt
-
 pub count-requires : goal.count-requires
 count-requires c = ((sound _ _ (sym c.is_map.ensures ∙ c.if-not-is_map.false)).sized.words, omega arith)
 
-pub returns-then-count-le0 : goal.returns-then-count-le0
-returns-then-count-le0 c = tt
-
 pub drop_rule-requires : goal.drop_rule-requires
 drop_rule-requires c = ((sound _ _ (sym c.is_map.ensures ∙ c.if-not-is_map.false)).sized, omega (arith, c.count.ensures))
-
-pub returns : goal.returns
-returns c = tt
