@@ -1,4 +1,6 @@
 -- `row_calls::line_row` meets its contract. Assumes nothing.
+use mathlib.Core.Bool.{not}
+use mathlib.Core.Path.{ap}
 use Rattle.call_list.proofs.Decode.{line_none, line_lanes, line_measure, line_given, line_step}
 use borrow.Author.Rules.{rules}
 use Rattle.row_calls.proofs.line_row.Goals as goal
@@ -16,4 +18,4 @@ pub part_at-given-requires : goal.part_at-given-requires
 part_at-given-requires c = search (rules, line_given)
 
 pub returns : goal.returns
-returns c = line_step _ _ _ _ c.line_within.ensures c.if-not-line_within.false _ _ _ c.list_at-lanes.ensures c.measure_at-measure.ensures c.part_at-given.ensures _ _ _ c.stop_line_by.ensures
+returns c = line_step _ _ _ _ c.line_within.ensures (ap not c.if-not-line_within.false) _ _ _ c.list_at-lanes.ensures c.measure_at-measure.ensures c.part_at-given.ensures _ _ _ c.stop_line_by.ensures
