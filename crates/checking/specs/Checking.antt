@@ -1,5 +1,5 @@
 -- Passing over a table: whether it stands there, where it ends, and how many points its records have.
-use Rattle.std.specs.Prelude.{ℕ, zero, suc, ◌+◌, ◌*◌, ◌≤◌, ◌<◌, ◌≡◌, cond, List, eqb, get_or}
+use Rattle.std.specs.Prelude.{ℕ, zero, suc, ◌+◌, ◌≤◌, ◌≡◌, cond, List, eqb, get_or}
 use Rattle.rows.specs.Lists.{total}
 use Rattle.codec.specs.Format.{Bytes, Read, fault, got, Format}
 use Rattle.map.specs.Ceilings.{lane_points, line_string_points, signal_points, crosswalk_points, rule_points}

@@ -1,5 +1,5 @@
 -- Numbers of every length, and what is no number: a longer form, an end too soon, 2 ^ 64, a byte that is none.
-use Prim.Native.Nat.{ℕ, ◌+◌}
+use Prim.Native.Nat.{ℕ}
 use mathlib.Core.Path.{◌≡◌, refl}
 use mathlib.Core.Bool.{false}
 use mathlib.Core.List.{[], ◌∷◌, map}

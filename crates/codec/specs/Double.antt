@@ -1,6 +1,6 @@
 -- A double in 8 bytes, low byte first. A NaN has many patterns, and so no written form.
-use Rattle.std.specs.Prelude.{ℕ, zero, suc, ◌+◌, ◌*◌, ◌/◌, ◌%◌, ◌^◌, ◌≤◌, ◌<◌, ◌≡◌, Bool, true, not, ◌&&◌, cond, [], ◌∷◌, ◌++◌, T, ltb, Float}
-use Rattle.std.proofs.Common.{ap, ◌∙◌, arith, pow-suc, lt-ltb, ltb-true}
+use Rattle.std.specs.Prelude.{ℕ, zero, suc, ◌+◌, ◌*◌, ◌/◌, ◌%◌, ◌^◌, ◌<◌, ◌≡◌, Bool, true, not, ◌&&◌, cond, [], ◌∷◌, ◌++◌, T, ltb, Float}
+use Rattle.std.proofs.Common.{ap, arith, pow-suc, lt-ltb, ltb-true}
 use Rattle.std.specs.Float.{binary64}
 use Rattle.std.specs.Float.Ieee.{to_bits, of_bits, is_nan, fits}
 use Rattle.std.specs.Float.Ieee.Bits.{of_bits-to_bits, to_bits-of_bits, to_bits-lt, of_bits-fits, is_true}

@@ -1,5 +1,5 @@
 -- A whole number in groups of seven bits: low group first, the top bit set on every byte but the last, the shortest form only, up to 2 ^ 64 - 1.
-use Rattle.std.specs.Prelude.{ℕ, zero, suc, ◌+◌, ◌*◌, ◌/◌, ◌%◌, ◌^◌, ◌≤◌, ◌<◌, ◌≡◌, refl, Bool, true, false, ◌&&◌, ◌||◌, cond, [], ◌∷◌, ◌++◌, ltb}
+use Rattle.std.specs.Prelude.{ℕ, zero, suc, ◌+◌, ◌*◌, ◌/◌, ◌%◌, ◌^◌, ◌≤◌, ◌<◌, ◌≡◌, refl, Bool, true, false, ◌||◌, cond, [], ◌∷◌, ◌++◌, ltb}
 use Rattle.std.proofs.Common.{sym, ap, ◌∙◌, arith, mul_assoc, mul_right_comm, add-mul, pow-suc, lt-ltb, le-ltb, ltb-true, ltb-false}
 use Rattle.std.proofs.Math.Nat.{div-add-mod}
 use Rattle.codec.specs.Format.{Bytes, Read, fault, got, Format, no_got, same_value, same_rest, passed}

@@ -1,5 +1,5 @@
 -- Closed cases beside the table: the station examples, the full map, the four slips, and each refusal from 9 to 13 in its place in the order.
-use Prim.Native.Nat.{ℕ, ◌+◌, ◌^◌, ◌-◌}
+use Prim.Native.Nat.{ℕ, ◌+◌, ◌^◌}
 use mathlib.Core.Path.{◌≡◌, refl}
 use mathlib.Core.Bool.{true, false}
 use mathlib.Core.Option.{none, some}

@@ -1,5 +1,5 @@
 -- Where a reader stands, and what it has put into a row. A row is a list of words and a list of coordinates.
-use Rattle.std.specs.Prelude.{ℕ, ◌+◌, ◌*◌, ◌^◌, ◌≤◌, ◌<◌, ◌≡◌, ◌⊎◌, true, ◌&&◌, List, leb, Float, length, get_or, drop}
+use Rattle.std.specs.Prelude.{ℕ, ◌+◌, ◌≤◌, ◌<◌, ◌≡◌, ◌⊎◌, true, ◌&&◌, List, leb, Float, length, get_or, drop}
 use Rattle.std.specs.Float.{nan}
 use Rattle.codec.specs.Format.{Bytes, Read, fault, got, Format, only}
 use Rattle.codec.specs.Number.{number}

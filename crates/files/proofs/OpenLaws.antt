@@ -1,13 +1,13 @@
 -- A map file that is opened: read, with an empty fold; 12 comes before 13.
 use Prim.Native.Nat.{ℕ}
 use mathlib.Core.Path.{◌≡◌, refl, sym, ◌∙◌}
-use mathlib.Core.Bool.{Bool, true, false, ◌&&◌}
+use mathlib.Core.Bool.{Bool, true, false}
 use mathlib.Core.Option.{Option, none, some}
 use mathlib.Core.List.{List, []}
 use lib.Ieee.{Float}
 use lib.ListN.{length}
 use borrow.Author.Tests.{eq-eqb, ne_eqb}
-use Rattle.refusal.specs.Answer.{Answer, refused, refused_as, present, ◌>>=◌, ◌>>◌}
+use Rattle.refusal.specs.Answer.{Answer, refused, refused_as, present, ◌>>=◌}
 use Rattle.refusal.specs.declared.Refusal.{Refusal}
 use Rattle.refusal.specs.declared.Refusal.TheVariants.{BadMap, BadSet}
 use Rattle.codec.specs.Format.{Bytes, file_of, no_true}

@@ -1,13 +1,13 @@
 -- A map file, tested and then loaded, stands in the tables as the map that it is.
-use Prim.Native.Nat.{ℕ, ◌≤◌}
+use Prim.Native.Nat.{ℕ}
 use mathlib.Core.Path.{◌≡◌, refl, sym, ap, ◌∙◌}
-use mathlib.Core.Bool.{Bool, true, false, ◌&&◌}
+use mathlib.Core.Bool.{Bool, true, false}
 use mathlib.Core.Option.{Option, none, some}
-use mathlib.Core.List.{List, [], ◌∷◌, ◌++◌, append-nil}
+use mathlib.Core.List.{List, [], ◌++◌, append-nil}
 use lib.Ieee.{Float}
 use lib.ListN.{length}
 use borrow.Author.Tests.{eq-eqb, ne_eqb}
-use Rattle.refusal.specs.Answer.{refused, done, present, ◌>>◌}
+use Rattle.refusal.specs.Answer.{refused, done, present}
 use Rattle.refusal.specs.declared.Refusal.TheVariants.{BadMap}
 use Rattle.rows.specs.Table.{rising}
 use Rattle.codec.specs.Format.{Bytes, got, Format, ◌⊗◌, only, via, tagged, file_of, file_back, no_got, no_true, both, and, same_value}

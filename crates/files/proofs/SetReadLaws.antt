@@ -1,13 +1,13 @@
 -- A set file loaded without a test of its order, and then tested, stands in the table as the set that it is.
-use Prim.Native.Nat.{ℕ, ◌+◌, ◌-◌, ◌≤◌, ◌<◌}
+use Prim.Native.Nat.{ℕ, ◌≤◌, ◌<◌}
 use mathlib.Core.Path.{◌≡◌, refl, sym, ap, ◌∙◌}
-use mathlib.Core.Bool.{Bool, true, false, not, ◌&&◌}
+use mathlib.Core.Bool.{Bool, true, false, not}
 use mathlib.Core.Option.{Option, none, some}
-use mathlib.Core.List.{List, [], ◌∷◌, ◌++◌, append-nil}
+use mathlib.Core.List.{List, [], ◌++◌, append-nil}
 use native.Mathlib.Omega.{arith}
 use lib.ListN.{length, drop, length-drop, drop_of_length-le}
 use borrow.Author.Tests.{eq-eqb, ne_eqb}
-use Rattle.refusal.specs.Answer.{refused, done, present, ◌>>◌}
+use Rattle.refusal.specs.Answer.{refused, done, present}
 use Rattle.refusal.specs.declared.Refusal.TheVariants.{BadSet}
 use Rattle.rows.specs.Rows.{pasted}
 use Rattle.rows.proofs.Bools.{parts, and_i}

@@ -2,7 +2,7 @@
 use Prim.Native.Nat.{ℕ, ◌+◌, ◌^◌, ◌≤◌, ◌<◌}
 use mathlib.Core.Path.{◌≡◌, refl, sym, ◌∙◌}
 use mathlib.Core.Bool.{Bool, true, false, not, ◌&&◌, cond}
-use mathlib.Core.List.{List, [], ◌∷◌, ◌++◌}
+use mathlib.Core.List.{List, [], ◌++◌}
 use native.Mathlib.Omega.{arith}
 use lib.Dec.{ltb, eqb}
 use lib.Ieee.{Float}
@@ -12,7 +12,7 @@ use borrow.Author.Tests.{lt-ltb, le-ltb, ltb-false, leb-true}
 use Rattle.refusal.specs.Answer.{Answer, refused, done, ◌>>◌, refuse_when}
 use Rattle.refusal.specs.declared.Refusal.TheVariants.{BadMap, BadSet, ShortBuffer}
 use Rattle.rows.proofs.Bools.{and_l, and_r, clash}
-use Rattle.codec.specs.Format.{Bytes, ◌⊗◌}
+use Rattle.codec.specs.Format.{Bytes}
 use Rattle.codec.proofs.Fits.{list_few}
 use Rattle.fields.specs.declared.Place.{Place}
 use Rattle.fields.specs.declared.Place.TheVariants as P

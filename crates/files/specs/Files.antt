@@ -1,5 +1,5 @@
 -- Reading, writing and opening files.
-use Rattle.std.specs.Prelude.{ℕ, not, [], ◌∷◌, ◌++◌, ltb, length, drop}
+use Rattle.std.specs.Prelude.{not, [], ◌++◌, ltb, length, drop}
 use Rattle.refusal.specs.Answer.{Answer, done, ◌>>=◌, ◌>>◌, refuse_when, present}
 use Rattle.codec.specs.Format
 use Rattle.codec.specs.Format.{Bytes, file_of}

@@ -7,7 +7,7 @@ use borrow.Author.Tests.{not-true, not-false, eq-eqb, ne_eqb}
 use lib.Dec.{eqb}
 use lib.Ieee.{Float}
 use lib.ListN.{length}
-use Rattle.refusal.specs.Answer.{done, refused_as, ◌>>◌, refuse_when}
+use Rattle.refusal.specs.Answer.{done, refused_as, refuse_when}
 use Rattle.refusal.specs.declared.Refusal.TheVariants.{BadMap, BadSet}
 use Rattle.store.specs.Layout.{SizedWords}
 use Rattle.map.specs.Tables.{is_map_tables}

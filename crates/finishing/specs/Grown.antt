@@ -1,5 +1,5 @@
 -- Whether a map that an edit made keeps below the ceilings: what has to be tested, where the edit left a map's lanes, boundaries and crosswalks as they were.
-use Rattle.std.specs.Prelude.{ℕ, ◌+◌, ◌≡◌, Bool, ◌&&◌, List, ◌++◌, leb, length}
+use Rattle.std.specs.Prelude.{◌+◌, ◌≡◌, Bool, ◌&&◌, List, ◌++◌, leb, length}
 use Rattle.rows.specs.Lists.{every}
 use Rattle.map.specs.Record.{LineString, Signal, Map}
 use Rattle.map.specs.Ceilings.{max_stop_lines, max_signals, max_rules, max_points, line_string_within, signal_within, rule_within, points}

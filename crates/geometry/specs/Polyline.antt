@@ -1,6 +1,6 @@
 -- Polylines: geometry/polyline.rs. A polyline is the list of its points.
 -- What a loop adds up over i is a function of i by recursion on i, so that a loop's invariant is `acc ≡ length_to xs i`. What a loop looks for is `first_from`.
-use Rattle.std.specs.Prelude.{ℕ, zero, suc, ◌+◌, ◌-◌, ◌*◌, ◌/◌, min, max, Bool, ◌&&◌, cond, List, [], ◌∷◌, ◌++◌, reverse, ltb, length, get_or, Float}
+use Rattle.std.specs.Prelude.{ℕ, zero, suc, ◌+◌, ◌-◌, ◌*◌, ◌/◌, min, max, Bool, ◌&&◌, cond, List, [], ◌∷◌, reverse, ltb, length, get_or, Float}
 use Rattle.std.proofs.Math.Option.{Option, none, some}
 use Rattle.std.specs.Float.{nan}
 use Rattle.std.specs.Float.Ieee.{lt, le}

@@ -1,6 +1,6 @@
 -- The tests of the calls, by themselves.
-use Rattle.std.specs.Prelude.{ℕ, Bool, ◌&&◌, List, Float}
-use Rattle.refusal.specs.Answer.{Answer, ◌>>=◌, ◌>>◌}
+use Rattle.std.specs.Prelude.{ℕ, Bool, List, Float}
+use Rattle.refusal.specs.Answer.{Answer, ◌>>◌}
 use Rattle.geometry.specs.Calls.{refuse_off_map, refuse_many, refuse_measure, check_line}
 
 -- 9 where the first test fails, then 10 for more than 64 points

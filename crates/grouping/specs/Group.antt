@@ -1,5 +1,5 @@
 -- What joining a light leaves of its rule.
-use Rattle.std.specs.Prelude.{ℕ, ◌≤◌, ◌<◌, ◌≡◌, not, cond, List, [], ◌∷◌, eqb, Float, length, take, set}
+use Rattle.std.specs.Prelude.{ℕ, ◌≤◌, ◌<◌, ◌≡◌, not, cond, List, eqb, Float, length, take, set}
 use Rattle.std.proofs.Math.Option.{Option, none, some}
 use Rattle.rows.specs.Lists.{or_else}
 use Rattle.store.specs.Layout.{count_of, row_of, coords_of, all_coords, Kept}

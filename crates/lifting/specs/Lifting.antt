@@ -1,5 +1,5 @@
 -- What the steps of lifting answer, whatever the coordinates, and what they leave.
-use Rattle.std.specs.Prelude.{ℕ, ◌+◌, ◌≤◌, ◌<◌, ◌≡◌, Bool, true, false, not, ◌&&◌, cond, List, ◌++◌, eqb, Float, length, get_or, take}
+use Rattle.std.specs.Prelude.{ℕ, ◌+◌, ◌≤◌, ◌<◌, ◌≡◌, Bool, true, false, not, ◌&&◌, cond, List, eqb, Float, length, get_or, take}
 use Rattle.rows.specs.Lists.{keep, member, joined, total}
 use Rattle.store.specs.Layout.{count_of, row_of}
 use Rattle.map.specs.declared.Entries.{Entries}

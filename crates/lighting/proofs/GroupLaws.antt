@@ -1,5 +1,5 @@
 -- The light that is joined, and the choice of a line: each refusal, and what is chosen.
-use Prim.Native.Nat.{ℕ, zero, suc, ◌+◌, ◌≤◌, ◌<◌}
+use Prim.Native.Nat.{ℕ, zero, suc, ◌+◌, ◌<◌}
 use mathlib.Core.Path.{◌≡◌, refl, sym, ap, ◌∙◌}
 use mathlib.Core.Bool.{true, false}
 use mathlib.Core.Option.{some}
@@ -8,7 +8,7 @@ use native.Mathlib.Omega.{arith}
 use lib.Ieee.{Float}
 use lib.ListN.{get_or}
 use borrow.Author.Tests.{eq-eqb, ne_eqb}
-use Rattle.refusal.specs.Answer.{refused, done, ◌>>=◌, ◌>>◌}
+use Rattle.refusal.specs.Answer.{refused, done}
 use Rattle.refusal.specs.declared.Refusal.TheVariants.{Unknown, WrongGroup}
 use Rattle.rows.specs.Lists.{list_to, no_entries}
 use Rattle.rows.proofs.Indexed.{length-list_to}

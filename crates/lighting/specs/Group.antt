@@ -1,7 +1,7 @@
 -- What the reader of a group and the choice of a line answer, whatever the coordinates.
 use Rattle.std.specs.Prelude.{ℕ, ◌≡◌, List, [], ◌∷◌, Float}
 use Rattle.std.proofs.Math.Option.{Option}
-use Rattle.refusal.specs.Answer.{Answer, done, refused_as, ◌>>=◌, ◌>>◌, refuse_when, present}
+use Rattle.refusal.specs.Answer.{Answer, done, refused_as, ◌>>◌, refuse_when, present}
 use Rattle.refusal.specs.declared.Refusal.{Refusal}
 use Rattle.rows.specs.Lists.{or_else}
 use Rattle.map.specs.Record.{Map}

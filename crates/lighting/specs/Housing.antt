@@ -1,5 +1,5 @@
 -- What a housing stands for, and its definition with the centreline at hand.
-use Rattle.std.specs.Prelude.{ℕ, ◌≡◌, Bool, cond, List, [], ◌∷◌, Float}
+use Rattle.std.specs.Prelude.{◌≡◌, Bool, cond, List, [], ◌∷◌, Float}
 use Rattle.std.proofs.Math.Option.{Option, none, some}
 use Rattle.refusal.specs.Answer.{Answer, done, ◌>>=◌, ◌>>◌, present}
 use Rattle.geometry.specs.Double.{half}

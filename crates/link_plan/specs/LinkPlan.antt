@@ -1,7 +1,7 @@
 -- The rule of `set_regulatory_links` in the parts that one function answers: its checks, whether it changes, and its row.
 use Rattle.std.specs.Prelude.{ℕ, ◌≤◌, ◌<◌, ◌≡◌, Bool, true, not, ◌&&◌, cond, List, [], ◌∷◌, eqb, leb, Float, length, get_or, set}
 use Rattle.std.proofs.Math.Option.{none, some}
-use Rattle.refusal.specs.Answer.{Answer, refused, ◌>>◌, refuse_when}
+use Rattle.refusal.specs.Answer.{Answer, refused, refuse_when}
 use Rattle.rows.specs.Lists.{same_list}
 use Rattle.store.specs.Layout.{SizedWords, count_of, row_of, coords_of, all_coords}
 use Rattle.map.specs.declared.RuleHead.{RuleHead}

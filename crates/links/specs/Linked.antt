@@ -1,5 +1,5 @@
 -- `set_regulatory_links` in the steps of its code.
-use Rattle.std.specs.Prelude.{ℕ, ◌≤◌, ◌≡◌, Bool, not, List, [], ◌∷◌, Float, length, get_or}
+use Rattle.std.specs.Prelude.{ℕ, ◌≡◌, Bool, not, List, [], ◌∷◌, Float, length, get_or}
 use Rattle.std.proofs.Math.Option.{none}
 use Rattle.refusal.specs.Answer.{Answer, done, ◌>>=◌, ◌>>◌, refuse_when, present}
 use Rattle.rows.specs.Lists.{sorted}

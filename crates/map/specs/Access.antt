@@ -1,5 +1,5 @@
 -- What the readers of the tables answer.
-use Rattle.std.specs.Prelude.{ℕ, ◌+◌, ◌≡◌, Bool, cond, List, ltb, Float, get_or, length, take}
+use Rattle.std.specs.Prelude.{ℕ, ◌≡◌, Bool, cond, List, ltb, Float, get_or, length, take}
 use Rattle.std.proofs.Math.Option.{none, some}
 use Rattle.rows.specs.Rows.{numbers_at, index_of}
 use Rattle.store.specs.Layout.{width_of, base_of, count_of}

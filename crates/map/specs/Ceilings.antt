@@ -1,5 +1,5 @@
 -- The ceilings, and whether a map keeps below them.
-use Rattle.std.specs.Prelude.{ℕ, ◌+◌, Bool, true, ◌&&◌, List, [], ◌∷◌, leb, length}
+use Rattle.std.specs.Prelude.{ℕ, ◌+◌, Bool, true, ◌&&◌, List, leb, length}
 use Rattle.std.proofs.Math.Option.{Option, none, some}
 use Rattle.geometry.specs.Polyline.{Polyline}
 use Rattle.rows.specs.Lists.{every, total, open_lists}

@@ -1,5 +1,5 @@
 -- Look-ups by number.
-use Rattle.std.specs.Prelude.{ℕ, cond, List, [], ◌∷◌}
+use Rattle.std.specs.Prelude.{ℕ, cond, List}
 use Rattle.std.proofs.Math.Option.{Option, none, some}
 use Rattle.geometry.specs.Polyline.{Polyline, reversed}
 use Rattle.rows.specs.Lists.{first_of}

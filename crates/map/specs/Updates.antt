@@ -1,5 +1,5 @@
 -- What the row edits leave. They cannot refuse: room and number are asked for before.
-use Rattle.std.specs.Prelude.{ℕ, zero, suc, ◌+◌, ◌-◌, ◌*◌, ◌/◌, ◌<◌, ◌≡◌, not, cond, List, [], ◌∷◌, eqb, Float, length, get_or, set}
+use Rattle.std.specs.Prelude.{ℕ, zero, suc, ◌+◌, ◌-◌, ◌*◌, ◌≡◌, not, cond, List, [], ◌∷◌, eqb, Float, length, get_or, set}
 use Rattle.std.proofs.Math.Option.{none, some}
 use Rattle.std.specs.Float.{nan}
 use Rattle.geometry.specs.Polyline.{polyline_of}

@@ -7,7 +7,7 @@ use mathlib.Core.List.{List, [], ◌∷◌}
 use lib.Dec.{leb}
 use lib.ListN.{get_or}
 use lib.Ieee.{Float}
-use Rattle.refusal.specs.Answer.{Answer, refused, done, ◌>>=◌, ◌>>◌, refuse_when, present}
+use Rattle.refusal.specs.Answer.{Answer, refused, done, ◌>>=◌, refuse_when, present}
 use Rattle.rows.specs.Lists.{or_else, every, twice, sorted}
 use Rattle.geometry.specs.Double.{f0}
 use Rattle.geometry.specs.Point.{point_on_map}

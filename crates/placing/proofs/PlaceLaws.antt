@@ -1,14 +1,14 @@
 -- Where a stop line goes: each refusal, and the line.
-use Prim.Native.Nat.{ℕ, ◌+◌, ◌*◌, ◌/◌, ◌≤◌, ◌<◌}
+use Prim.Native.Nat.{ℕ, ◌*◌, ◌/◌, ◌≤◌}
 use mathlib.Core.Path.{◌≡◌, refl, sym, ap, ◌∙◌}
-use mathlib.Core.Bool.{Bool, true, false, not, ◌||◌}
+use mathlib.Core.Bool.{Bool, true, false, not}
 use mathlib.Core.Option.{none, some}
 use mathlib.Core.List.{List, [], ◌∷◌}
 use native.Mathlib.Omega.{arith}
 use lib.Ieee.{Float, lt}
 use lib.ListN.{length, get_or, take}
 use borrow.Author.Tests.{not-true, not-false}
-use Rattle.refusal.specs.Answer.{Answer, done, ◌>>=◌, ◌>>◌}
+use Rattle.refusal.specs.Answer.{Answer, done, ◌>>=◌}
 use Rattle.refusal.specs.declared.Refusal.{Refusal}
 use Rattle.refusal.specs.declared.Refusal.TheVariants.{BadMeasure, NoPlace}
 use Rattle.rows.specs.Lists.{list_to}

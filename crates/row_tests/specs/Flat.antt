@@ -1,5 +1,5 @@
 -- What the passes over the tables test, in terms of the two lists. The crate `validity` shows that all of it together is that the tables are those of a map.
-use Rattle.std.specs.Prelude.{ℕ, zero, suc, ◌+◌, ◌*◌, ◌≤◌, ◌<◌, ◌≡◌, Bool, true, false, ◌&&◌, not, cond, List, leb, ltb, eqb, Float, get_or, length}
+use Rattle.std.specs.Prelude.{ℕ, zero, suc, ◌+◌, ◌*◌, ◌≤◌, ◌<◌, Bool, true, false, ◌&&◌, not, cond, List, leb, ltb, eqb, Float, get_or, length}
 use Rattle.std.specs.Float.{nan}
 use Rattle.std.specs.Float.Ieee.{le, neg}
 use Rattle.geometry.specs.Double.{farthest, is_finite}

@@ -1,15 +1,15 @@
 -- Tables of change sets: what writing a list leaves, which tables fit, and the fold from its lists.
 use mathlib.Core.Path.{◌≡◌, refl, sym, ap, ap₂, ◌∙◌}
 use mathlib.Core.Bool.{Bool, true, false, not, ◌&&◌}
-use mathlib.Core.List.{List, [], ◌∷◌, ◌++◌}
-use Prim.Native.Nat.{ℕ, zero, suc, ◌+◌, ◌-◌, ◌*◌, ◌≤◌, ◌<◌}
+use mathlib.Core.List.{List, [], ◌++◌}
+use Prim.Native.Nat.{ℕ, zero, suc, ◌+◌, ◌*◌, ◌≤◌, ◌<◌}
 use native.Mathlib.Omega.{arith}
 use lib.Dec.{leb}
 use lib.ListN.{length, get_or, set, length-set}
 use lib.Seq.{get_or-set_same, get_or-set_other}
 use borrow.Author.Tests.{eq-eqb, ne_eqb, eqb-true, le-leb, lt-leb}
 use Rattle.rows.proofs.Bools.{parts, and_i, and_l, and_no, clash}
-use Rattle.refusal.specs.Answer.{done, ◌>>◌}
+use Rattle.refusal.specs.Answer.{done}
 use Rattle.refusal.specs.declared.Refusal.TheVariants.{Full, BadSet}
 use Rattle.map.specs.Entity.{EntityRef}
 use Rattle.changes.specs.ChangeFile.{max_entries, rising_refs, entries, apart, lists_apart, lists_ok}

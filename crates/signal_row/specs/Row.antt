@@ -1,5 +1,5 @@
 -- What a new signal's lamps and its row stand for.
-use Rattle.std.specs.Prelude.{ℕ, ◌≤◌, ◌<◌, ◌≡◌, Bool, false, List, [], ◌∷◌, map, Float, length, get_or}
+use Rattle.std.specs.Prelude.{ℕ, ◌≤◌, ◌<◌, ◌≡◌, Bool, false, List, map, Float, length, get_or}
 use Rattle.rows.specs.Lists.{or_default, list_to, every}
 use Rattle.geometry.specs.declared.Point3.{Point3}
 use Rattle.geometry.specs.Double.{◌⊕◌, ◌⊘◌, whole, half}

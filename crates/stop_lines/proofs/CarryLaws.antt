@@ -1,14 +1,14 @@
 -- A plan carried out, and the whole call. Assumes nothing.
-use Prim.Native.Nat.{ℕ, suc, ◌+◌, ◌*◌, ◌^◌, ◌≤◌, ◌<◌, max}
+use Prim.Native.Nat.{ℕ, suc, ◌*◌, ◌^◌, ◌≤◌, ◌<◌, max}
 use mathlib.Core.Path.{◌≡◌, refl, sym, ap, ◌∙◌}
-use mathlib.Core.Bool.{Bool, true, ◌&&◌}
-use mathlib.Core.List.{List, [], ◌∷◌}
+use mathlib.Core.Bool.{Bool, true}
+use mathlib.Core.List.{List}
 use native.Mathlib.Omega.{arith}
 use lib.Dec.{leb}
 use lib.Ieee.{Float}
 use lib.ListN.{length, get_or, take}
 use borrow.Author.Tests.{leb-false}
-use Rattle.refusal.specs.Answer.{done, ◌>>=◌, ◌>>◌}
+use Rattle.refusal.specs.Answer.{done}
 use Rattle.refusal.specs.declared.Refusal.{Refusal}
 use Rattle.store.specs.Layout.{count_of, next_of}
 use Rattle.row_tests.specs.Flat.{all_points}

@@ -3,7 +3,7 @@ use Prim.Native.Nat.{ℕ, zero, suc, ◌+◌, ◌*◌, ◌^◌, ◌≤◌, ◌<�
 use mathlib.Core.Path.{◌≡◌, refl, sym, ◌∙◌}
 use mathlib.Core.Bool.{Bool, true, false, not, ◌&&◌, ◌||◌, cond}
 use mathlib.Core.Option.{Option, none, some}
-use mathlib.Core.List.{List, [], ◌∷◌}
+use mathlib.Core.List.{List}
 use native.Mathlib.Nat.{zero-add}
 use native.Mathlib.Omega.{arith}
 use borrow.Author.Tests.{lt-ltb, leb-true, eq-eqb, ne_eqb, eqb-true, eqb-false}
@@ -15,7 +15,7 @@ use lib.ListN.{length}
 use Rattle.geometry.specs.Double.{is_finite, absolute, on_map, farthest}
 use Rattle.rows.specs.Lists.{every, list_to}
 use Rattle.rows.proofs.Indexed.{tab, list_to_tab}
-use Rattle.codec.specs.Format.{Format, ◌⊗◌, via, only, tagged, nothing, counted}
+use Rattle.codec.specs.Format.{Format, via, only, tagged, nothing, counted}
 use Rattle.codec.specs.Number.{number, split}
 use Rattle.codec.specs.Double.{double}
 use Rattle.codec.specs.Items.{below, from, list, flag, option}

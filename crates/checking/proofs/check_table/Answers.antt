@@ -1,5 +1,4 @@
 use native.Mathlib.Omega.{arith}
-use Prim.Native.Nat.{◌-◌}
 use borrow.Author.Rules.{rules}
 use Rattle.checking.proofs.CheckLaws as L
 use Rattle.checking.proofs.check_table.Goals as goal

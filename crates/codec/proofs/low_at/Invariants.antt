@@ -1,4 +1,4 @@
-use Prim.Native.Nat.{◌+◌, ◌-◌}
+use Prim.Native.Nat.{◌-◌}
 use Rattle.codec.proofs.DoubleLaws as L
 use Rattle.codec.proofs.low_at.Given as goal
 

@@ -1,4 +1,3 @@
-use Prim.Native.Nat.{◌-◌}
 use borrow.Author.Rules.{rules}
 use Rattle.codec.proofs.DoubleLaws as L
 use Rattle.codec.proofs.put_low.Goals as goal

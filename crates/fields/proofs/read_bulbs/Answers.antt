@@ -1,4 +1,3 @@
-use Prim.Native.Nat.{◌-◌}
 use borrow.Author.Rules.{rules}
 use Rattle.fields.proofs.BulbLaws as L
 use Rattle.fields.proofs.read_bulbs.Goals as goal

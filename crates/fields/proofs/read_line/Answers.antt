@@ -1,4 +1,3 @@
-use Prim.Native.Nat.{◌-◌}
 use borrow.Author.Rules.{rules}
 use Rattle.fields.proofs.Points as L
 use Rattle.fields.proofs.read_line.Goals as goal

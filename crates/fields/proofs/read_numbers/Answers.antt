@@ -1,4 +1,3 @@
-use Prim.Native.Nat.{◌-◌}
 use borrow.Author.Rules.{rules}
 use Rattle.fields.proofs.Words as L
 use Rattle.fields.proofs.read_numbers.Goals as goal

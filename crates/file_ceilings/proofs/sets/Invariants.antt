@@ -1,4 +1,4 @@
-use Rattle.std.proofs.Common.{◌≡◌, ◌-◌, ◌≤◌, length}
+use Rattle.std.proofs.Common.{◌≡◌, ◌-◌, length}
 use Rattle.file_ceilings.proofs.sets.Given as goal
 
 abbrev pub invariant-loop-i : goal.invariant-loop-i

@@ -1,4 +1,4 @@
-use Rattle.std.proofs.Common.{◌≡◌, ◌-◌, ◌≤◌, length}
+use Rattle.std.proofs.Common.{◌≡◌, ◌-◌, length}
 use Rattle.file_damages.proofs.cut_short.Given as goal
 
 abbrev pub invariant-loop-k : goal.invariant-loop-k

@@ -1,4 +1,4 @@
-use Rattle.std.proofs.Common.{◌≡◌, ◌-◌, ◌≤◌, length}
+use Rattle.std.proofs.Common.{◌≡◌, ◌-◌, length}
 use Rattle.file_damages.proofs.left_over.Given as goal
 
 abbrev pub invariant-loop-b : goal.invariant-loop-b

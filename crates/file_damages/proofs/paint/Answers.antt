@@ -1,4 +1,4 @@
-use Rattle.std.proofs.Common.{◌≡◌, ◌-◌, ◌≤◌, arith, length-set}
+use Rattle.std.proofs.Common.{arith, length-set}
 use Rattle.file_damages.proofs.paint.Goals as goal
 
 pub loop-i-smaller : goal.loop-i-smaller

@@ -1,4 +1,4 @@
-use Rattle.std.proofs.Common.{◌≡◌, ◌-◌, ◌≤◌, length}
+use Rattle.std.proofs.Common.{◌≡◌, ◌-◌, length}
 use Rattle.file_damages.proofs.short.Given as goal
 
 abbrev pub invariant-loop-size : goal.invariant-loop-size

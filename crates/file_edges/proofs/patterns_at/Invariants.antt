@@ -1,6 +1,6 @@
 use lib.ListN.{length}
 use mathlib.Core.Path.{◌≡◌}
-use Prim.Native.Nat.{◌-◌, ◌≤◌}
+use Prim.Native.Nat.{◌-◌}
 use Rattle.file_edges.proofs.patterns_at.Given as goal
 
 abbrev pub invariant-loop-j : goal.invariant-loop-j

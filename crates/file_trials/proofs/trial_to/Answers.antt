@@ -1,4 +1,4 @@
-use Rattle.std.proofs.Common.{◌≡◌, ◌-◌, ◌≤◌, sym, arith, length-take-le}
+use Rattle.std.proofs.Common.{sym, arith, length-take-le}
 use Rattle.file_trials.proofs.trial_to.Goals as goal
 
 pub slice_bounds-trial-end : goal.slice_bounds-trial-end

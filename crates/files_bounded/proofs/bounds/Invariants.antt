@@ -1,6 +1,6 @@
 use lib.ListN.{length}
 use mathlib.Core.Path.{◌≡◌}
-use Prim.Native.Nat.{◌-◌, ◌≤◌}
+use Prim.Native.Nat.{◌-◌}
 use Rattle.files_bounded.proofs.bounds.Given as goal
 
 abbrev pub invariant-loop-which : goal.invariant-loop-which

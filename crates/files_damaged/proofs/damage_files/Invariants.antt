@@ -1,6 +1,6 @@
 use lib.ListN.{length}
 use mathlib.Core.Path.{◌≡◌}
-use Prim.Native.Nat.{◌-◌, ◌≤◌}
+use Prim.Native.Nat.{◌-◌}
 use Rattle.files_damaged.proofs.damage_files.Given as goal
 
 abbrev pub invariant-loop-k : goal.invariant-loop-k

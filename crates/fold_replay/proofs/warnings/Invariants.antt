@@ -1,5 +1,5 @@
 -- `fold_replay::warnings` is safe and ends: the words left grow fewer. Assumes nothing.
-use Rattle.std.proofs.Common.{◌≡◌, ◌+◌, ◌-◌, ◌≤◌, length}
+use Rattle.std.proofs.Common.{◌≡◌, ◌-◌, ◌≤◌, length}
 use Rattle.fold_replay.proofs.warnings.Given as goal
 
 abbrev pub invariant-loop-i : goal.invariant-loop-i

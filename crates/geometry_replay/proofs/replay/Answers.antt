@@ -1,5 +1,4 @@
 -- `geometry_replay::replay` is safe and ends: the text's end comes nearer with each line. Assumes nothing.
-use Rattle.std.proofs.Common.{◌-◌, ◌≤◌}
 use Rattle.geometry_replay.proofs.replay.Goals as goal
 
 pub returns-then-next-words : goal.returns-then-next-words

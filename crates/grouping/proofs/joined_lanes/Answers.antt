@@ -1,6 +1,4 @@
 -- `grouping::joined_lanes` meets its contract. Assumes nothing.
-use Prim.Native.Nat.{◌-◌, ◌<◌}
-use mathlib.Core.Path.{◌≡◌}
 use native.Mathlib.Omega.{arith}
 use Rattle.map.proofs.UpdateLaws.{rule_limit}
 use Rattle.grouping.proofs.JoinLaws.{join_start, join_end, join_skip, join_full, join_more}

@@ -1,5 +1,5 @@
 -- `grouping::joined_lanes` meets its contract. Assumes nothing.
-use Prim.Native.Nat.{◌-◌, ◌<◌}
+use Prim.Native.Nat.{◌-◌}
 use mathlib.Core.Path.{◌≡◌}
 use lib.ListN.{length}
 use Rattle.store.specs.Layout.{row_of}

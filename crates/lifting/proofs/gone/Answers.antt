@@ -1,6 +1,4 @@
 -- `lifting::gone` meets its contract. Assumes nothing.
-use Prim.Native.Nat.{◌-◌}
-use mathlib.Core.Path.{◌≡◌}
 use native.Mathlib.Omega.{arith}
 use Rattle.lifting.proofs.GoneLaws.{freeing_start, freeing_next, freeing_end, rules_few}
 use Rattle.lifting.proofs.gone.Goals as goal

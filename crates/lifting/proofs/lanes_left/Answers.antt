@@ -1,7 +1,6 @@
 -- `lifting::lanes_left` meets its contract. Assumes nothing.
 use mathlib.Core.Bool.{not}
 use mathlib.Core.Path.{ap}
-use Prim.Native.Nat.{◌-◌}
 use native.Mathlib.Omega.{arith}
 use Rattle.lifting.proofs.OneLaws.{sifted_start, sifted_end, sifted_more, sifted_less}
 use borrow.Author.Rules.{rules}

@@ -1,7 +1,6 @@
 -- `lifting::lanes_left` meets its contract. Assumes nothing.
 use Prim.Native.Nat.{◌-◌}
 use lib.ListN.{length}
-use mathlib.Core.Logic.{⊎_elim}
 use Rattle.lifting.proofs.OneLaws.{Sifted}
 use Rattle.lifting.proofs.lanes_left.Given as goal
 

@@ -1,4 +1,3 @@
-use Prim.Native.Nat.{◌-◌}
 use borrow.Author.Rules.{rules}
 use Rattle.loading.proofs.LoadLaws as L
 use Rattle.loading.proofs.load_table.Goals as goal

@@ -1,4 +1,3 @@
-use Prim.Native.Nat.{◌-◌}
 use borrow.Author.Rules.{rules}
 use Rattle.mapput.proofs.TableLaws as L
 use Rattle.mapput.proofs.put_table.Goals as goal

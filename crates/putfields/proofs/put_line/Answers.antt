@@ -1,6 +1,5 @@
 use borrow.Author.Rules.{rules}
 use Rattle.putfields.proofs.FieldLaws as L
-use Prim.Native.Nat.{◌-◌}
 use Rattle.putfields.proofs.put_line.Goals as goal
 
 pub put_number-q-requires : goal.put_number-q-requires

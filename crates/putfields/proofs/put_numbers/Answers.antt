@@ -1,4 +1,3 @@
-use Prim.Native.Nat.{◌-◌}
 use borrow.Author.Rules.{rules}
 use Rattle.putfields.proofs.FieldLaws as L
 use Rattle.putfields.proofs.put_numbers.Goals as goal

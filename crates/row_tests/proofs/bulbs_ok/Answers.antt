@@ -1,7 +1,6 @@
 -- `row_tests::bulbs_ok` meets its contract. Assumes nothing.
 use Rattle.row_tests.specs.Flat.{good_bulb, good_bulbs}
-use Prim.Native.Nat.{◌+◌, ◌-◌, ◌≤◌}
-use mathlib.Core.Path.{◌≡◌, sym, ◌∙◌}
+use mathlib.Core.Path.{sym, ◌∙◌}
 use native.Mathlib.Nat.{sub-zero}
 use Rattle.rows.proofs.RowLaws.{every_next, every_stop, every_end}
 use Rattle.rows.proofs.Indexed.{tab_step, tab_none, list_to_tab}

@@ -1,7 +1,7 @@
 -- `row_tests::bulbs_ok` meets its contract. Assumes nothing.
 use Rattle.row_tests.specs.Flat.{good_bulb, good_bulbs}
-use Prim.Native.Nat.{◌+◌, ◌-◌, ◌≤◌}
-use mathlib.Core.Path.{◌≡◌, ◌∙◌}
+use Prim.Native.Nat.{◌-◌, ◌≤◌}
+use mathlib.Core.Path.{◌≡◌}
 use Rattle.rows.specs.Lists.{every}
 use Rattle.rows.proofs.Indexed.{tab}
 use Rattle.row_tests.proofs.bulbs_ok.Given as goal

@@ -1,6 +1,6 @@
 -- `row_tests::coords_ok` meets its contract. Assumes nothing.
 use Rattle.row_tests.specs.Flat.{good_coord}
-use Prim.Native.Nat.{◌+◌, ◌-◌, ◌≤◌}
+use Prim.Native.Nat.{◌+◌}
 use mathlib.Core.Path.{◌≡◌, refl, sym, ◌∙◌}
 use mathlib.Core.Bool.{Bool, true, false, ◌&&◌}
 use mathlib.Core.List.{List, [], ◌∷◌}

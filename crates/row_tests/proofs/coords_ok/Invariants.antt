@@ -1,9 +1,8 @@
 -- `row_tests::coords_ok` meets its contract. Assumes nothing.
 use Rattle.row_tests.specs.Flat.{good_coord}
 use Prim.Native.Nat.{◌+◌, ◌-◌, ◌≤◌}
-use mathlib.Core.Path.{◌≡◌, ◌∙◌}
+use mathlib.Core.Path.{◌≡◌}
 use mathlib.Core.Bool.{◌&&◌}
-use mathlib.Core.List.{[], ◌∷◌}
 use Rattle.rows.specs.Lists.{every}
 use Rattle.rows.specs.Rows.{cut}
 use Rattle.row_tests.proofs.coords_ok.Given as goal

@@ -1,5 +1,4 @@
 -- `runs::run_rows` meets its contract: what is left to do at each row is what was left at the beginning. Assumes nothing.
-use Prim.Native.Nat.{◌-◌}
 use native.Mathlib.Omega.{arith}
 use borrow.Author.Rules.{rules}
 use Rattle.runs.proofs.RowLaws.{first_row, next_row, last_row, row_words_lem}

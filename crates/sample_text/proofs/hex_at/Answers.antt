@@ -1,5 +1,4 @@
 -- `sample_text::hex_at` is safe and ends: the text's end comes nearer. Assumes nothing.
-use Rattle.std.proofs.Common.{◌-◌}
 use Rattle.sample_text.proofs.hex_at.Goals as goal
 
 pub loop-i-init : goal.loop-i-init

@@ -1,5 +1,4 @@
 -- `sample_text::name_at` is safe and ends: the text's end comes nearer. Assumes nothing.
-use Rattle.std.proofs.Common.{◌-◌}
 use Rattle.sample_text.proofs.name_at.Goals as goal
 
 pub loop-i-init : goal.loop-i-init

@@ -1,5 +1,5 @@
 -- `sample_text::points_at` meets its contract: a store keeps the array's length. Assumes nothing.
-use Rattle.std.proofs.Common.{◌≡◌, ◌-◌, refl, length-set}
+use Rattle.std.proofs.Common.{refl, length-set}
 use Rattle.sample_text.proofs.points_at.Goals as goal
 
 pub returns-then-count-gt64 : goal.returns-then-count-gt64

@@ -1,4 +1,3 @@
-use Prim.Native.Nat.{◌-◌}
 use borrow.Author.Rules.{rules}
 use Rattle.setfile.proofs.LoadLaws as L
 use Rattle.setfile.proofs.load_entries.Goals as goal

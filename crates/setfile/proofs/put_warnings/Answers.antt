@@ -1,4 +1,3 @@
-use Prim.Native.Nat.{◌-◌}
 use borrow.Author.Rules.{rules}
 use Rattle.setfile.proofs.SetLaws as L
 use Rattle.setfile.proofs.put_warnings.Goals as goal

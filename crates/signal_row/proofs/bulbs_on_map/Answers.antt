@@ -1,8 +1,6 @@
 -- `signal_row::bulbs_on_map` meets its contract. Assumes nothing.
 use mathlib.Core.Bool.{not}
 use mathlib.Core.Path.{ap}
-use Prim.Native.Nat.{◌-◌}
-use mathlib.Core.Path.{◌≡◌}
 use native.Mathlib.Omega.{arith}
 use Rattle.signal_row.proofs.StoredLaws.{stand_start, stand_end, stand_stop, stand_next, longs}
 use Rattle.signal_row.proofs.bulbs_on_map.Goals as goal

@@ -1,6 +1,5 @@
 -- `signal_row::bulbs_on_map` meets its contract. Assumes nothing.
 use Prim.Native.Nat.{◌-◌}
-use mathlib.Core.Path.{◌≡◌}
 use Rattle.signal_row.proofs.StoredLaws.{Stand}
 use Rattle.signal_row.proofs.bulbs_on_map.Given as goal
 

@@ -1,7 +1,5 @@
 -- `validity::counts_ok` meets its contract. Assumes nothing.
 use Rattle.validity.proofs.Within.{fits_in, fits_over, fits_under, counts_left}
-use Prim.Native.Nat.{ℕ, ◌+◌, ◌-◌, ◌≤◌}
-use mathlib.Core.Path.{◌≡◌, ◌∙◌}
 use Rattle.rows.proofs.RowLaws.{every_next, every_stop, every_end}
 use Rattle.rows.proofs.Indexed.{tab_step, tab_none}
 use native.Mathlib.Omega.{arith}

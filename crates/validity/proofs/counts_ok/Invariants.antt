@@ -1,8 +1,8 @@
 -- `validity::counts_ok` meets its contract. Assumes nothing.
 use Rattle.validity.proofs.Within.{fits_in}
 use Rattle.row_tests.specs.Flat.{good_counts}
-use Prim.Native.Nat.{ℕ, ◌+◌, ◌-◌, ◌≤◌}
-use mathlib.Core.Path.{◌≡◌, ◌∙◌}
+use Prim.Native.Nat.{◌-◌, ◌≤◌}
+use mathlib.Core.Path.{◌≡◌}
 use Rattle.rows.specs.Lists.{every}
 use Rattle.rows.proofs.Indexed.{tab}
 use Rattle.validity.proofs.counts_ok.Given as goal

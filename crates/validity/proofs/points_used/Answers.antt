@@ -1,8 +1,7 @@
 -- `validity::points_used` meets its contract. Assumes nothing.
 use Rattle.validity.proofs.Sums.{sum_none, sum_next, table_few, all_is}
 use Rattle.row_tests.specs.Flat.{table_points}
-use Prim.Native.Nat.{◌+◌, ◌-◌, ◌*◌, ◌≤◌}
-use mathlib.Core.Path.{◌≡◌, ◌∙◌}
+use mathlib.Core.Path.{◌≡◌}
 use native.Mathlib.Omega.{arith}
 use Rattle.validity.proofs.points_used.Goals as goal
 

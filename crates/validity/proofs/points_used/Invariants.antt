@@ -1,7 +1,7 @@
 -- `validity::points_used` meets its contract. Assumes nothing.
 use Rattle.row_tests.specs.Flat.{table_points}
-use Prim.Native.Nat.{◌+◌, ◌-◌, ◌*◌, ◌≤◌}
-use mathlib.Core.Path.{◌≡◌, ◌∙◌}
+use Prim.Native.Nat.{◌-◌, ◌*◌, ◌≤◌}
+use mathlib.Core.Path.{◌≡◌}
 use Rattle.rows.specs.Lists.{list_to, total}
 use Rattle.validity.proofs.points_used.Given as goal
 

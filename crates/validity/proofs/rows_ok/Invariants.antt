@@ -1,7 +1,7 @@
 -- `validity::rows_ok` meets its contract. Assumes nothing.
 use Rattle.row_tests.specs.Flat.{good_row, good_rows}
-use Prim.Native.Nat.{◌+◌, ◌-◌, ◌≤◌}
-use mathlib.Core.Path.{◌≡◌, ◌∙◌}
+use Prim.Native.Nat.{◌-◌, ◌≤◌}
+use mathlib.Core.Path.{◌≡◌}
 use Rattle.rows.specs.Lists.{every}
 use Rattle.rows.proofs.Indexed.{tab}
 use Rattle.store.specs.Layout.{count_of}

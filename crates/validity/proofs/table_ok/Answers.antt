@@ -1,7 +1,6 @@
 -- `validity::table_ok` meets its contract. Assumes nothing.
 use Rattle.row_tests.specs.Flat.{good_table, good_order}
 use Rattle.store.proofs.StoreLaws.{wide, placed}
-use mathlib.Core.Path.{◌≡◌, ◌∙◌}
 use native.Mathlib.Omega.{arith}
 use Rattle.validity.proofs.table_ok.Goals as goal
 

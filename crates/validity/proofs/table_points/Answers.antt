@@ -1,8 +1,7 @@
 -- `validity::table_points` meets its contract. Assumes nothing.
 use Rattle.validity.proofs.Sums.{sum_none, sum_next, table_is}
 use Rattle.row_tests.specs.Flat.{row_points}
-use Prim.Native.Nat.{◌+◌, ◌-◌, ◌*◌, ◌≤◌}
-use mathlib.Core.Path.{◌≡◌, ◌∙◌}
+use mathlib.Core.Path.{◌≡◌}
 use Rattle.store.proofs.StoreLaws.{limit_small}
 use native.Mathlib.Omega.{arith}
 use Rattle.validity.proofs.table_points.Goals as goal

@@ -1,7 +1,7 @@
 -- `validity::table_points` meets its contract. Assumes nothing.
 use Rattle.row_tests.specs.Flat.{row_points}
-use Prim.Native.Nat.{◌+◌, ◌-◌, ◌*◌, ◌≤◌}
-use mathlib.Core.Path.{◌≡◌, ◌∙◌}
+use Prim.Native.Nat.{◌-◌, ◌*◌, ◌≤◌}
+use mathlib.Core.Path.{◌≡◌}
 use Rattle.rows.specs.Lists.{list_to, total}
 use Rattle.store.specs.Layout.{count_of}
 use Rattle.validity.proofs.table_points.Given as goal

@@ -1,7 +1,7 @@
 -- `validity::tables_ok` meets its contract. Assumes nothing.
 use Rattle.row_tests.specs.Flat.{good_table, good_tables}
-use Prim.Native.Nat.{◌+◌, ◌-◌, ◌≤◌}
-use mathlib.Core.Path.{◌≡◌, ◌∙◌}
+use Prim.Native.Nat.{◌-◌, ◌≤◌}
+use mathlib.Core.Path.{◌≡◌}
 use Rattle.rows.specs.Lists.{every}
 use Rattle.rows.proofs.Indexed.{tab}
 use Rattle.validity.proofs.tables_ok.Given as goal

@@ -1,7 +1,6 @@
 -- `centerline::measure::measure` meets its contract: the table is right up to point i. Assumes nothing.
 use Rattle.centerline.proofs.Measures.{measuring_start, measuring_next, measured}
 use Rattle.polyline.proofs.Lines.{length-points}
-use Prim.Native.Nat.{◌-◌, ◌/◌}
 use Rattle.centerline.proofs.measure.measure.Goals as goal
 
 pub loop-i-init : goal.loop-i-init

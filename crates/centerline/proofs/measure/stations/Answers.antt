@@ -2,7 +2,6 @@
 use Rattle.centerline.proofs.Measures.{stationed_start, stationed_next, stationed_end}
 use Rattle.centerline.specs.Line.{stations_of}
 use Rattle.polyline.proofs.Lines.{length-points}
-use Prim.Native.Nat.{◌-◌, ◌/◌}
 use Rattle.centerline.proofs.measure.stations.Goals as goal
 
 pub loop-i-init : goal.loop-i-init

@@ -3,7 +3,6 @@ use Rattle.centerline.proofs.Arrays.{filled_none, filled_next}
 use Rattle.centerline.specs.Line.{points_of, halfway_to}
 use Rattle.geometry.specs.Polyline.{point_in}
 use mathlib.Core.Path.{◌≡◌, refl}
-use Prim.Native.Nat.{ℕ, ◌-◌, ◌≤◌}
 use native.Mathlib.Omega.{arith}
 use Rattle.centerline.proofs.middle.halfway.Goals as goal
 

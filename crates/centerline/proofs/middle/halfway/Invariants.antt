@@ -3,7 +3,6 @@ use Rattle.centerline.proofs.Arrays.{Filled}
 use Rattle.geometry.specs.Polyline.{point_in}
 use Rattle.geometry.specs.Point.{lerp}
 use Rattle.geometry.specs.Double.{half}
-use mathlib.Core.Path.{◌≡◌}
 use Prim.Native.Nat.{ℕ, ◌-◌, ◌≤◌}
 use Rattle.centerline.proofs.middle.halfway.Given as goal
 

@@ -3,7 +3,7 @@ use Rattle.centerline.proofs.Places.{passed_next, located_here, located_end}
 use Rattle.polyline.proofs.Lines.{length-points, reach_past}
 use lib.ListN.{length}
 use mathlib.Core.Path.{◌≡◌, sym, ◌∙◌}
-use Prim.Native.Nat.{◌-◌, ◌/◌, ◌≤◌}
+use Prim.Native.Nat.{◌-◌, ◌/◌}
 use native.Mathlib.Omega.{arith}
 use Rattle.centerline.proofs.resample.reaching_from.Goals as goal
 

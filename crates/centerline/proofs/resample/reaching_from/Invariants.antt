@@ -2,7 +2,6 @@
 use Rattle.centerline.specs.Line.{Passed}
 use Rattle.geometry.specs.Polyline.{polyline_of}
 use lib.ListN.{length}
-use mathlib.Core.Path.{◌≡◌, ◌∙◌}
 use Prim.Native.Nat.{◌-◌, ◌/◌, ◌≤◌}
 use Rattle.centerline.proofs.resample.reaching_from.Given as goal
 

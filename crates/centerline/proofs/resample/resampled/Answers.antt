@@ -6,7 +6,6 @@ use Rattle.centerline.specs.Line.{points_of}
 use Rattle.polyline.proofs.Lines.{length-points}
 use Rattle.geometry.specs.Polyline.{polyline_of}
 use mathlib.Core.Path.{◌≡◌, refl, ◌∙◌}
-use Prim.Native.Nat.{◌-◌, ◌/◌, ◌≤◌, ◌<◌}
 use native.Mathlib.Omega.{arith}
 use Rattle.centerline.proofs.resample.resampled.Goals as goal
 

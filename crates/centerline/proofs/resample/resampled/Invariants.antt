@@ -3,7 +3,6 @@ use Rattle.centerline.proofs.Arrays.{Filled}
 use Rattle.centerline.specs.Line.{Passed}
 use Rattle.geometry.specs.Polyline.{polyline_of, resampled}
 use lib.ListN.{length}
-use mathlib.Core.Path.{◌≡◌, ◌∙◌}
 use Prim.Native.Nat.{◌-◌, ◌/◌, ◌≤◌, ◌<◌}
 use Rattle.centerline.proofs.resample.resampled.Given as goal
 

@@ -6,7 +6,7 @@ use Rattle.polyline.proofs.Lines.{length-points}
 use Rattle.geometry.specs.Polyline.{polyline_of}
 use lib.ListN.{length}
 use mathlib.Core.Path.{◌≡◌, refl, ◌∙◌}
-use Prim.Native.Nat.{ℕ, ◌-◌, ◌/◌, ◌≤◌}
+use Prim.Native.Nat.{◌/◌}
 use native.Mathlib.Omega.{arith}
 use Rattle.centerline.proofs.reversed.reversed.Goals as goal
 

@@ -2,7 +2,6 @@
 use Rattle.centerline.proofs.Arrays.{Filled}
 use Rattle.geometry.specs.Polyline.{polyline_of, pt}
 use lib.ListN.{length}
-use mathlib.Core.Path.{◌≡◌, ◌∙◌}
 use Prim.Native.Nat.{ℕ, ◌-◌, ◌/◌, ◌≤◌}
 use Rattle.centerline.proofs.reversed.reversed.Given as goal
 

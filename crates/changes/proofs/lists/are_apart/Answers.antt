@@ -1,5 +1,4 @@
 -- `lists::are_apart` meets its contract. Assumes nothing.
-use Prim.Native.Nat.{◌+◌}
 use Rattle.changes.proofs.MergeLaws as L
 use borrow.Author.Rules.{rules}
 use Rattle.changes.proofs.lists.are_apart.Goals as goal

@@ -1,5 +1,4 @@
 -- `lists::sift` meets its contract. Assumes nothing.
-use Prim.Native.Nat.{◌+◌}
 use Rattle.changes.proofs.MergeLaws as L
 use borrow.Author.Rules.{rules}
 use Rattle.changes.proofs.lists.sift.Goals as goal

@@ -1,6 +1,4 @@
 -- `lists::union` meets its contract. Assumes nothing.
-use mathlib.Core.List.{◌++◌}
-use Prim.Native.Nat.{◌+◌}
 use Rattle.changes.proofs.MergeLaws as L
 use borrow.Author.Rules.{rules}
 use Rattle.changes.proofs.lists.union.Goals as goal

@@ -1,7 +1,6 @@
 -- `geometry_calls::tests::coords_on_map` meets its contract: what is left from i on decides. Assumes nothing.
 use Rattle.geometry_calls.proofs.Laws.{lacks, on_map_start, on_map_out, on_map_next, on_map_end}
 use mathlib.Core.Path.{sym, ◌∙◌}
-use Prim.Native.Nat.{◌-◌}
 use Rattle.geometry_calls.proofs.tests.coords_on_map.Goals as goal
 
 pub returns-then-cs-ne0 : goal.returns-then-cs-ne0

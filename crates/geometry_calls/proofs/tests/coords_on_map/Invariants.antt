@@ -1,7 +1,6 @@
 -- `geometry_calls::tests::coords_on_map` meets its contract: what is left from i on decides. Assumes nothing.
 use Rattle.geometry_calls.proofs.Laws.{OnMapTo}
 use lib.ListN.{length}
-use mathlib.Core.Path.{◌∙◌}
 use Prim.Native.Nat.{◌-◌}
 use Rattle.geometry_calls.proofs.tests.coords_on_map.Given as goal
 

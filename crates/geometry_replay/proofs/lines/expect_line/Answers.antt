@@ -1,5 +1,4 @@
 -- `geometry_replay::lines::expect_line` is safe and ends. Assumes nothing.
-use Rattle.std.proofs.Common.{◌-◌}
 use Rattle.geometry_replay.proofs.lines.expect_line.Goals as goal
 
 pub returns-then-count-gt64 : goal.returns-then-count-gt64

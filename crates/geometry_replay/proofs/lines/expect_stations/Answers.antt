@@ -1,5 +1,4 @@
 -- `geometry_replay::lines::expect_stations` is safe and ends. Assumes nothing.
-use Rattle.std.proofs.Common.{◌-◌}
 use Rattle.geometry_replay.proofs.lines.expect_stations.Goals as goal
 
 pub returns-then-n-gt64 : goal.returns-then-n-gt64

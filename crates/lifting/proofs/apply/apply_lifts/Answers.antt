@@ -1,5 +1,4 @@
 -- `lifting::apply::apply_lifts` meets its contract. Assumes nothing.
-use Prim.Native.Nat.{◌-◌}
 use native.Mathlib.Omega.{arith}
 use Rattle.lifting.proofs.ApplyLaws.{applying_start, applying_next, applying_end}
 use Rattle.lifting.proofs.apply.apply_lifts.Goals as goal

@@ -1,6 +1,4 @@
 -- `lifting::note::note_lifts` meets its contract. Assumes nothing.
-use Prim.Native.Nat.{◌-◌}
-use mathlib.Core.Path.{◌≡◌}
 use native.Mathlib.Omega.{arith}
 use Rattle.lifting.proofs.GoneLaws.{rules_few}
 use Rattle.lifting.proofs.NoteLaws.{noting_start, one_fits, noting_next, noting_end, word_asks}

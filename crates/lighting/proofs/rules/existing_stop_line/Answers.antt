@@ -1,6 +1,4 @@
 -- `lighting::rules::existing_stop_line` meets its contract. Assumes nothing.
-use Prim.Native.Nat.{◌-◌}
-use mathlib.Core.Path.{◌≡◌}
 use native.Mathlib.Omega.{arith}
 use Rattle.lighting.proofs.RuleLaws.{lineless_start, lineless_end, lineless_found, lineless_next}
 use Rattle.lighting.proofs.rules.existing_stop_line.Goals as goal

@@ -1,6 +1,5 @@
 -- `link_plan::same::same_list` meets its contract. Assumes nothing.
-use Prim.Native.Nat.{◌≤◌, ◌-◌}
-use mathlib.Core.Path.{◌≡◌, refl}
+use mathlib.Core.Path.{refl}
 use native.Mathlib.Omega.{arith}
 use Rattle.link_plan.proofs.PlanLaws.{lengths_differ, entries_differ, entries_same, all_same}
 use Rattle.link_plan.proofs.same.same_list.Goals as goal

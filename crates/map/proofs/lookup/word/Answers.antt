@@ -1,6 +1,5 @@
 use native.Mathlib.Omega.{arith}
-use mathlib.Core.Path.{sym, ◌∙◌}
-use Prim.Native.Nat.{ℕ, ◌+◌}
+use mathlib.Core.Path.{sym}
 use Rattle.store.proofs.StoreLaws.{row_ends}
 use Rattle.map.proofs.ReadLaws.{get_or_row}
 use Rattle.map.proofs.lookup.word.Goals as goal

@@ -1,4 +1,4 @@
-use mathlib.Core.Path.{refl, ◌∙◌}
+use mathlib.Core.Path.{refl}
 use native.Mathlib.Omega.{arith}
 use Rattle.map.proofs.UpdateLaws.{push_sized, rule_limit, row_long_is, rule_pushed_is}
 use Rattle.map.proofs.update.push_rule.Goals as goal

@@ -1,5 +1,5 @@
 -- `place::lines::copied` meets its contract. Assumes nothing.
-use mathlib.Core.Path.{◌≡◌, refl}
+use mathlib.Core.Path.{refl}
 use Rattle.centerline.specs.Line.{points_of}
 use native.Mathlib.Omega.{arith}
 use Rattle.place.proofs.LineLaws.{part_long, copy_room, copy_is}

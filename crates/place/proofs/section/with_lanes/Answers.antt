@@ -1,5 +1,4 @@
 -- `place::section::with_lanes` meets its contract. Assumes nothing.
-use Prim.Native.Nat.{◌-◌}
 use native.Mathlib.Omega.{arith}
 use Rattle.place.proofs.SectionLaws.{laning_start, laning_end, laning_missing, laning_next}
 use Rattle.place.proofs.section.with_lanes.Goals as goal

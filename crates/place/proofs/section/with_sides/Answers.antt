@@ -1,5 +1,4 @@
 -- `place::section::with_sides` meets its contract. Assumes nothing.
-use Prim.Native.Nat.{◌-◌}
 use native.Mathlib.Omega.{arith}
 use Rattle.place.proofs.SectionLaws.{siding_start, siding_end, siding_missing, siding_past, siding_taken}
 use borrow.Author.Rules.{rules}

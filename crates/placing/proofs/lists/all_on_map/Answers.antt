@@ -1,7 +1,6 @@
 -- `placing::lists::all_on_map` meets its contract. Assumes nothing.
 use mathlib.Core.Bool.{not}
 use mathlib.Core.Path.{ap}
-use Prim.Native.Nat.{◌-◌}
 use native.Mathlib.Omega.{arith}
 use Rattle.geometry.specs.Double.{on_map}
 use Rattle.placing.proofs.WalkLaws.{every_start, every_end, every_out, every_next}

@@ -1,5 +1,4 @@
 -- `placing::lists::member` meets its contract. Assumes nothing.
-use Prim.Native.Nat.{◌-◌}
 use native.Mathlib.Omega.{arith}
 use Rattle.placing.proofs.WalkLaws.{sought_start, sought_end, sought_here, sought_next}
 use Rattle.placing.proofs.lists.member.Goals as goal

@@ -1,5 +1,4 @@
 -- `placing::lists::twice` meets its contract. Assumes nothing.
-use Prim.Native.Nat.{◌-◌}
 use native.Mathlib.Omega.{arith}
 use Rattle.placing.proofs.WalkLaws.{single_start, single_end, single_not, single_next}
 use Rattle.placing.proofs.lists.twice.Goals as goal

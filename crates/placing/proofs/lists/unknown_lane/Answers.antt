@@ -1,7 +1,6 @@
 -- `placing::lists::unknown_lane` meets its contract. Assumes nothing.
 use mathlib.Core.Bool.{not}
 use mathlib.Core.Path.{ap}
-use Prim.Native.Nat.{◌-◌}
 use native.Mathlib.Omega.{arith}
 use Rattle.placing.proofs.WalkLaws.{known_start, known_end, known_not, known_next}
 use Rattle.placing.proofs.lists.unknown_lane.Goals as goal

@@ -2,8 +2,7 @@
 use Rattle.polyline.proofs.Lists.{below_here, below_past, below_end}
 use Rattle.geometry.specs.Maybe.{maybe_point2}
 use native.Mathlib.Omega.{arith}
-use mathlib.Core.Path.{◌≡◌, refl, sym, ap, ◌∙◌}
-use Prim.Native.Nat.{◌-◌, ◌≤◌}
+use mathlib.Core.Path.{refl, sym, ap, ◌∙◌}
 use Rattle.polyline.proofs.direction.backward.Goals as goal
 
 pub loop-i-init : goal.loop-i-init

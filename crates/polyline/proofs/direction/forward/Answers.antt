@@ -2,8 +2,7 @@
 use Rattle.polyline.proofs.Lists.{first_here, first_past, first_end}
 use Rattle.geometry.specs.Maybe.{maybe_point2}
 use native.Mathlib.Omega.{arith}
-use mathlib.Core.Path.{◌≡◌, refl, sym, ap, ◌∙◌}
-use Prim.Native.Nat.{◌-◌, ◌/◌, ◌≤◌}
+use mathlib.Core.Path.{refl, sym, ap, ◌∙◌}
 use Rattle.polyline.proofs.direction.forward.Goals as goal
 
 pub loop-i-init : goal.loop-i-init

@@ -2,7 +2,7 @@
 use Rattle.geometry.specs.Polyline.{polyline_of, segment_direction}
 use Rattle.rows.specs.Lists.{first_from}
 use lib.ListN.{length}
-use mathlib.Core.Path.{◌≡◌, ◌∙◌}
+use mathlib.Core.Path.{◌≡◌}
 use Prim.Native.Nat.{◌-◌, ◌/◌, ◌≤◌}
 use Rattle.polyline.proofs.direction.forward.Given as goal
 

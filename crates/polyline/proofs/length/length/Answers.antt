@@ -2,8 +2,7 @@
 use Rattle.polyline.proofs.Lines.{length_next, length_is}
 use Rattle.geometry.specs.Polyline.{polyline_of, length_to}
 use native.Mathlib.Omega.{arith}
-use mathlib.Core.Path.{◌≡◌, refl, ◌∙◌}
-use Prim.Native.Nat.{◌≤◌, ◌-◌, ◌/◌}
+use mathlib.Core.Path.{refl, ◌∙◌}
 use Rattle.polyline.proofs.length.length.Goals as goal
 
 pub loop-i-init : goal.loop-i-init

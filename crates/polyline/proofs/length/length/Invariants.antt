@@ -1,7 +1,7 @@
 -- `polyline::length::length` meets its contract. The loop's sum is the length up to point i. Assumes nothing.
 use Rattle.geometry.specs.Polyline.{polyline_of, length_to}
 use lib.ListN.{length}
-use mathlib.Core.Path.{◌≡◌, ◌∙◌}
+use mathlib.Core.Path.{◌≡◌}
 use Prim.Native.Nat.{◌≤◌, ◌-◌, ◌/◌}
 use Rattle.polyline.proofs.length.length.Given as goal
 

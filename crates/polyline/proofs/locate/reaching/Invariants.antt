@@ -2,7 +2,6 @@
 use Rattle.polyline.proofs.Lines.{Reaching}
 use Rattle.geometry.specs.Polyline.{polyline_of}
 use lib.ListN.{length}
-use mathlib.Core.Path.{◌≡◌, ◌∙◌}
 use Prim.Native.Nat.{◌-◌, ◌/◌}
 use Rattle.polyline.proofs.locate.reaching.Given as goal
 

@@ -4,7 +4,7 @@ use Rattle.geometry.specs.Polyline.{polyline_of}
 use lib.ListN.{length}
 use mathlib.Core.Option.{some}
 use mathlib.Core.Path.{◌≡◌, sym, ap, ◌∙◌}
-use Prim.Native.Nat.{◌-◌, ◌/◌, ◌≤◌}
+use Prim.Native.Nat.{◌-◌}
 use native.Mathlib.Omega.{arith}
 use Rattle.polyline.proofs.nearest.nearest_of_segments.Goals as goal
 use Rattle.polyline.proofs.nearest.nearest_of_segments.Goals.{else-d-best, then-d-best}

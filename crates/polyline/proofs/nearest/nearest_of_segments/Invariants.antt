@@ -2,8 +2,6 @@
 use Rattle.polyline.proofs.Lines.{Best}
 use Rattle.geometry.specs.Polyline.{polyline_of}
 use lib.ListN.{length}
-use mathlib.Core.Logic.{⊎_elim}
-use mathlib.Core.Path.{◌≡◌, ◌∙◌}
 use Prim.Native.Nat.{◌-◌, ◌/◌, ◌≤◌}
 use Rattle.polyline.proofs.nearest.nearest_of_segments.Given as goal
 

@@ -1,5 +1,5 @@
 -- `printing::decimal::digits` is safe and ends: less room is left with each digit. Assumes nothing.
-use Rattle.std.proofs.Common.{◌≡◌, ◌-◌, ◌≤◌, arith, length-set, rules}
+use Rattle.std.proofs.Common.{arith, length-set, rules}
 use Rattle.printing.proofs.decimal.digits.Goals as goal
 
 pub loop-n-smaller : goal.loop-n-smaller

@@ -1,5 +1,5 @@
 -- `printing::limbs::multiply` is safe and ends: a store keeps the length, and fewer limbs are left. Assumes nothing.
-use Rattle.std.proofs.Common.{◌≡◌, ◌-◌, ◌≤◌, arith, length-set}
+use Rattle.std.proofs.Common.{arith, length-set}
 use Rattle.printing.proofs.limbs.multiply.Goals as goal
 
 pub loop-i-smaller : goal.loop-i-smaller

@@ -1,5 +1,4 @@
 -- `sample_text::bytes::expect_bytes` is safe and ends: fewer bytes are left. Assumes nothing.
-use Rattle.std.proofs.Common.{◌-◌}
 use Rattle.sample_text.proofs.bytes.expect_bytes.Goals as goal
 
 pub returns-then-at-eq0 : goal.returns-then-at-eq0

@@ -1,5 +1,4 @@
 -- `sample_text::bytes::hash` is safe and ends: fewer bytes are left. Assumes nothing.
-use Rattle.std.proofs.Common.{◌-◌}
 use Rattle.sample_text.proofs.bytes.hash.Goals as goal
 
 pub loop-n-init : goal.loop-n-init

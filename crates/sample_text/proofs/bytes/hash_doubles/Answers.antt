@@ -1,5 +1,4 @@
 -- `sample_text::bytes::hash_doubles` is safe and ends: fewer doubles are left. Assumes nothing.
-use Rattle.std.proofs.Common.{◌-◌}
 use Rattle.sample_text.proofs.bytes.hash_doubles.Goals as goal
 
 pub loop-n-init : goal.loop-n-init
