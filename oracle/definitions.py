@@ -8,10 +8,12 @@ refusal and details, or the same number, change set, ends, map file and running 
 the opening: the map file, the fold's file and the tally at the end. Calls that are left out of the runs because
 document 01 gives 9, 10 or 11, 2 where the Rust panics, or 7 with detail 4, are compared with what 01 gives by the
 oracle's model. Left-out calls that 01 carries out (no line for a group with a line) are passed over.
-Outside the gate: it takes some minutes. A theorem that runs past the checker's step limit has no verdict and is
+Outside the gate: it takes some minutes. The theorems are a crate of their own, checked by `rt check` in a copy of the
+crates below it, with what of them is built. A theorem that runs past the checker's step limit has no verdict and is
 counted apart. Exit code 1 on a difference, or where fewer than N calls have a verdict.
 """
 import argparse
+import atexit
 import os
 import re
 import shutil
@@ -23,76 +25,76 @@ HERE = os.path.dirname(os.path.abspath(__file__))
 ROOT = os.path.dirname(HERE)
 ORACLE = os.path.join(HERE, 'target', 'release', 'oracle')
 
-HEAD = '''use Prim.Native.Nat.{ℕ}
-use mathlib.Core.Path.{_≡_, refl}
-use mathlib.Core.Bool.{Bool, true, false}
-use mathlib.Core.Option.{Option, none, some}
-use mathlib.Core.List.{List, [], _∷_, _++_}
-use lib.Ieee.{Float, binary64, ofBits, toBits, neg}
-use Rattle·refusal.specs.Answer.{Answer, refused, done}
-use Rattle·rows.specs.Lists.{sameList}
-use Rattle·geometry.specs.Point.{at3}
-use Rattle·map.specs.declared.SignalKind.the-variants.{Vehicle, Pedestrian}
-use Rattle·map.specs.declared.BulbColor.the-variants.{Red, Yellow, Green, White}
-use Rattle·map.specs.declared.BulbArrow.the-variants.{NoArrow, Up, Down, Left, Right, UpLeft, UpRight, DownLeft, DownRight}
-use Rattle·map.specs.Record.{Map}
-use Rattle·changes.specs.ChangeSet.{ChangeSet, noChanges, tallyOf}
-use Rattle·changes.specs.Running.{State, opening}
-use Rattle·files.specs.Files.{readMap, readChanges}
-use Rattle·place.specs.declared.Placement.the-variants.{AtLaneEnd, AtStation, Given}
-use Rattle·edit.specs.declared.StopRule.the-variants.{StopSign, Marking, NoRule}
-use Rattle·edit.specs.declared.StopLineChoice.the-variants.{Automatic, Existing, New, NoLine}
-use Rattle·compare·proofs.proofs.Shown.{shown, shownLinks, ending}
-use Rattle·run.specs.Run.{Edit, line, signal, links, runOne, runAll, open-all}
+HEAD = '''use Rattle.std.specs.Prelude.{ℕ, ◌≡◌, refl, true, List, [], ◌∷◌, ◌++◌, Float}
+use Rattle.std.proofs.Math.Option.{none, some}
+use Rattle.std.specs.Float.{binary64}
+use Rattle.std.specs.Float.Ieee.{of_bits, to_bits, neg}
+use Rattle.refusal.specs.Answer.{Answer, refused, done}
+use Rattle.rows.specs.Lists.{same_list}
+use Rattle.geometry.specs.Point.{at3}
+use Rattle.map.specs.declared.SignalKind.TheVariants.{Vehicle, Pedestrian}
+use Rattle.map.specs.declared.BulbColor.TheVariants.{Red, Yellow, Green, White}
+use Rattle.map.specs.declared.BulbArrow.TheVariants.{NoArrow, Up, Down, Left, Right, UpLeft, UpRight, DownLeft, DownRight}
+use Rattle.map.specs.Record.{Map}
+use Rattle.changes.specs.ChangeSet.{ChangeSet, no_changes, tally_of}
+use Rattle.changes.specs.Running.{State, opening}
+use Rattle.files.specs.Files.{read_map, read_changes}
+use Rattle.place.specs.declared.Placement.TheVariants.{AtLaneEnd, AtStation, Given}
+use Rattle.edit.specs.declared.StopRule.TheVariants.{StopSign, Marking, NoRule}
+use Rattle.edit.specs.declared.StopLineChoice.TheVariants.{Automatic, Existing, New, NoLine}
+use Rattle.run.specs.Run.{line, signal, links, run_one, run_all, open_all}
+use Rattle.compare.proofs.Shown.{shown, shown_links, ending}
 
 abbrev f : ℕ → Float
-f n = ofBits binary64 n
+f n = of_bits binary64 n
 
-abbrev stateOf : Answer Map → Answer ChangeSet → State
-stateOf (done m) (done c) = record { map = m; fold = c; tally = tallyOf c }
-stateOf (done m) (refused n ds) = opening m
-stateOf (refused n ds) b = opening (record { next = 0; lanes = []; boundaries = []; stopLines = []; signals = []; crosswalks = []; rules = [] })
+abbrev state_of : Answer Map → Answer ChangeSet → State
+state_of (done m) (done c) = record { map = m; fold = c; tally = tally_of c }
+state_of (done m) (refused n ds) = opening m
+state_of (refused n ds) b = opening (record { next = 0; lanes = []; boundaries = []; stop_lines = []; signals = []; crosswalks = []; rules = [] })
 
 '''
 
 # What is compared of an answer. A file of its own: sides and arrows have the same names.
-SHOWN = '''use Prim.Native.Nat.{ℕ}
-use mathlib.Core.Option.{Option, none, some}
-use mathlib.Core.List.{List, [], _∷_, _++_}
-use Rattle·refusal.specs.Answer.{Answer, refused, done}
-use Rattle·codec.specs.Format
-use Rattle·codec.specs.Format.{Bytes}
-use Rattle·map.specs.MapFile.{mapFile}
-use Rattle·changes.specs.ChangeFile.{changeFile}
-use Rattle·changes.specs.Running.{State}
-use Rattle·place.specs.declared.LaneSide.{LaneSide}
-use Rattle·place.specs.declared.LaneSide.the-variants.{Left, Right}
-use Rattle·place.specs.declared.SectionNames.{SectionNames}
-use Rattle·edit.specs.Edit.{Outcome}
+SHOWN = '''use Rattle.std.specs.Prelude.{ℕ, [], ◌∷◌, ◌++◌}
+use Rattle.std.proofs.Math.Option.{Option, none, some}
+use Rattle.refusal.specs.Answer.{Answer, refused, done}
+use Rattle.codec.specs.Format
+use Rattle.codec.specs.Format.{Bytes}
+use Rattle.map.specs.MapFile.{map_file}
+use Rattle.changes.specs.ChangeFile.{change_file}
+use Rattle.changes.specs.Running.{State}
+use Rattle.place.specs.declared.LaneSide.{LaneSide}
+use Rattle.place.specs.declared.LaneSide.TheVariants.{Left, Right}
+use Rattle.place.specs.declared.SectionNames.{SectionNames}
+use Rattle.edit.specs.Edit.{Outcome}
 
-abbrev sideNumber : LaneSide → ℕ
-sideNumber Left = 0
-sideNumber Right = 1
+abbrev side_number : LaneSide → ℕ
+side_number Left = 0
+side_number Right = 1
 
-abbrev namesOf : Option SectionNames → Bytes
-namesOf none = 0 ∷ []
-namesOf (some x) = 1 ∷ x .left .lane ∷ sideNumber (x .left .side) ∷ x .right .lane ∷ sideNumber (x .right .side) ∷ []
+abbrev names_of : Option SectionNames → Bytes
+names_of none = 0 ∷ []
+names_of (some x) = 1 ∷ x.left.lane ∷ side_number x.left.side ∷ x.right.lane ∷ side_number x.right.side ∷ []
 
 abbrev left : Outcome → Bytes
-left o = changeFile .write (o .changes) ++ namesOf (o .ends) ++ mapFile .write (o .state .map) ++ changeFile .write (o .state .fold)
+left o = change_file.write o.changes ++ names_of o.ends ++ map_file.write o.state.map ++ change_file.write o.state.fold
 
 abbrev pub shown : Answer Outcome → Bytes
 shown (refused n ds) = 0 ∷ n ∷ ds
-shown (done o) = 1 ∷ o .id ∷ left o
+shown (done o) = 1 ∷ o.id ∷ left o
 
 -- set_regulatory_links answers no number
-abbrev pub shownLinks : Answer Outcome → Bytes
-shownLinks (refused n ds) = 0 ∷ n ∷ ds
-shownLinks (done o) = 1 ∷ 0 ∷ left o
+abbrev pub shown_links : Answer Outcome → Bytes
+shown_links (refused n ds) = 0 ∷ n ∷ ds
+shown_links (done o) = 1 ∷ 0 ∷ left o
 
 abbrev pub ending : State → Bytes
-ending s = s .tally .created ∷ s .tally .modified ∷ s .tally .deleted ∷ mapFile .write (s .map) ++ changeFile .write (s .fold)
+ending s = s.tally.created ∷ s.tally.modified ∷ s.tally.deleted ∷ map_file.write s.map ++ change_file.write s.fold
 '''
+
+# The crates that the theorems name.
+COMPARED = 'refusal rows geometry codec map changes files place edit run'
 
 KINDS = ['Vehicle', 'Pedestrian']
 COLORS = ['Red', 'Yellow', 'Green', 'White']
@@ -180,7 +182,7 @@ class Tokens:
             return ('signal (record { lanes = %s; choice = %s; points = %s; housing = %s; height = %s; kind = %s; '
                     'bulbs = %s; group = %s })' % (lanes, choice, points, housing, height, kind, bulbs, group))
         rule = self.number()
-        return 'links (record { rule = %d; lanes = %s; crosswalks = %s; stopLines = %s })' % (
+        return 'links (record { rule = %d; lanes = %s; crosswalks = %s; stop_lines = %s })' % (
             rule, self.numbers(), self.numbers(), self.numbers())
 
 
@@ -210,7 +212,7 @@ def named(words):
 
 
 def theorem(name, term, expected):
-    return '%s : sameList (%s) (%s) ≡ true\nunfolding open-all neg toBits\n%s = refl\n\n' % (name, term, expected, name)
+    return '%s : same_list (%s) (%s) ≡ true\nunfolding open_all neg to_bits\n%s = refl\n\n' % (name, term, expected, name)
 
 
 def call_theorems(pairs, most):
@@ -231,8 +233,8 @@ def call_theorems(pairs, most):
         # a long map file would not be computed within the step limit
         if len(here) <= 2400 and len(out) < most and left[parts[0]]:
             left[parts[0]] -= 1
-            show = 'shownLinks' if word == 'links' else 'shown'
-            term = '%s (runOne (%s) (stateOf (readMap (%s)) (readChanges (%s))))' % (
+            show = 'shown_links' if word == 'links' else 'shown'
+            term = '%s (run_one (%s) (state_of (read_map (%s)) (read_changes (%s))))' % (
                 show, Tokens(request).edit(), numbers(here), numbers(fold))
             if parts[0] == 'done':
                 lists = [numbers(parts[2]), named(parts[3:-2]), numbers(parts[-2]), numbers(parts[-1])]
@@ -252,7 +254,7 @@ def run_theorems(pairs, most, edits):
     def close():
         if start and len(es) == edits and len(start) <= 2400 and len(out) < most:
             here, fold, counts = end
-            term = 'ending (runAll (%s) (stateOf (readMap (%s)) (done noChanges)))' % (
+            term = 'ending (run_all (%s) (state_of (read_map (%s)) (done no_changes)))' % (
                 listed(['(%s)' % e for e in es]), numbers(start))
             expected = ' ∷ '.join(counts) + ' ∷ (%s) ++ (%s)' % (numbers(here), numbers(fold))
             out.append((term, expected, 'run of %d edits' % edits))
@@ -298,13 +300,32 @@ def counts_of(fold):
     return counts
 
 
+def copied(where):
+    """Copies the crates below the theorems, with the libraries that are built, and lists them."""
+    rows = [row.partition('#')[0].partition(':') for row in open(os.path.join(ROOT, 'crates.txt'))]
+    needs = {head.strip(): below.split() for head, _, below in rows if head.strip()}
+    ahead, below = COMPARED.split(), set()
+    while ahead:
+        name = ahead.pop()
+        if name in needs and name not in below:
+            below.add(name)
+            ahead += needs[name]
+    for name in below:
+        shutil.copytree(os.path.join(ROOT, 'crates', name), os.path.join(where, 'crates', name), dirs_exist_ok=True,
+                        ignore=shutil.ignore_patterns('incremental', 'must-fail'))
+    with open(os.path.join(where, 'crates.txt'), 'w') as out:
+        for name in sorted(below):
+            out.write('%s: %s\n' % (name, ' '.join(needs[name])))
+        out.write('compare: %s\n' % COMPARED)
+
+
 def check(where, items, names):
     """Writes the theorems, ten a file, and has the checker compute them; answers the names that failed, and those without a verdict."""
     crate = os.path.join(where, 'crates', 'compare')
     shutil.rmtree(crate, ignore_errors=True)
     os.makedirs(os.path.join(crate, 'src'))
     os.makedirs(os.path.join(crate, 'proofs'))
-    open(os.path.join(crate, 'src', 'lib.rt'), 'w').write('// Definitions against the oracle.\n')
+    open(os.path.join(crate, 'src', 'lib.rt'), 'w').write('// Definitions against the oracle.\n#![tactic(auto)]\n')
     open(os.path.join(crate, 'proofs', 'Shown.antt'), 'w').write(SHOWN)
     modules = ['Shown']
     for i in range(0, len(items), 10):
@@ -313,16 +334,20 @@ def check(where, items, names):
         with open(os.path.join(crate, 'proofs', module + '.antt'), 'w') as out:
             out.write(HEAD + ''.join(theorem(names[j], items[j][0], items[j][1]) for j in range(i, min(i + 10, len(items)))))
     open(os.path.join(crate, 'proofs', 'Lib.antt'), 'w').write(''.join('mod %s\n' % m for m in modules))
-    done = subprocess.run(['rt', 'dev', 'compare'], cwd=where, capture_output=True, text=True)
+    done = subprocess.run(['rt', 'check'], cwd=crate, capture_output=True, text=True)
     text = done.stdout + done.stderr
     failed, silent = set(), set()
     for row in text.splitlines():
-        if 'was not admitted' in row:
+        fault = re.match(r'(?:\./)?proofs/\w+\.antt:\d+:\d+: error: (?:`((?:call|run)\d+)`: )?(.*)', row)
+        if not fault:
+            continue
+        # no theorem's own fault: an import, or a definition that theorems stand on
+        if not fault.group(1):
             sys.exit('definitions.py: ' + row[:300])
-        told = re.search(r'Some\d+\.antt:\d+:\d+: (?:error: )?.*?`((?:call|run)\d+)`', row)
-        if told:
-            (silent if 'step' in row or 'no verdict' in row else failed).add(told.group(1))
-    if done.returncode and not failed and not silent:
+        # names in a printed term may hold the word step
+        (silent if 'the step limit' in fault.group(2) or 'no verdict' in fault.group(2) else failed).add(fault.group(1))
+    # 1: refused, 3: no verdict on some of them
+    if done.returncode and (done.returncode not in (1, 3) or not failed and not silent):
         print('\n'.join(row[:300] for row in text.splitlines() if 'error' in row or 'step' in row)[:3000] or text[-3000:])
         sys.exit('definitions.py: the checker failed')
     return failed, silent
@@ -337,10 +362,9 @@ def main():
     parser.add_argument('--keep')
     options = parser.parse_args()
     where = options.keep or tempfile.mkdtemp()
-    shutil.copytree(os.path.join(ROOT, 'crates'), os.path.join(where, 'crates'), dirs_exist_ok=True)
-    text = open(os.path.join(ROOT, 'crates.txt')).read()
-    open(os.path.join(where, 'crates.txt'), 'w').write(
-        text + 'compare: refusal rows geometry codec map changes files place edit run\n')
+    if not options.keep:
+        atexit.register(shutil.rmtree, where, ignore_errors=True)
+    copied(where)
     # on lanes laid on one another several sides lie equally far out
     calls = call_theorems(asked(options.seed, 20 + options.calls, 'small'), options.calls) + call_theorems(
         asked(options.seed + 2, 20 + options.calls // 3, 'shared'), options.calls // 3)
