@@ -65,7 +65,7 @@ low_short zero s h = absurd (let z : ⊥ = omega arith in z)
 low_short (suc k) [] h = refl
 low_short (suc k) (b ∷ s) h = split (ltb b 256) (λ t. rw (t, low_short k s (omega arith))) (λ t. rw t)
 
-pub ruleset reading-low = (low_starts, low_room, low_sum, low_more, low_ends)
+pub ruleset reading_low = (low_starts, low_room, low_sum, low_more, low_ends)
 
 -- the bytes of rest from place k on make it those of n
 pub record PutLow (old : Bytes) (at n : ℕ) (out : Bytes) (rest k : ℕ) : Type 0 where
@@ -89,7 +89,7 @@ module _ (old : Bytes) (at n : ℕ) (out : Bytes) (rest k : ℕ) (r : PutLow old
   unfolding low_bytes
   put_ends f = let z : 8 - k ≡ 0 = omega arith in rw z at r.made
 
-pub ruleset putting-low = (put_starts, put_more, put_ends)
+pub ruleset putting_low = (put_starts, put_more, put_ends)
 
 -- ---- the value of the eight bytes
 
@@ -125,7 +125,7 @@ module _ (s : Bytes) (at : ℕ) where
   pub double_there : (x : Float) → got x (drop (at + 8) s) ≡ double.read (drop at s) → DoubleRead s at (D.Got x (at + 8))
   double_there x e = record { read = e; place = λ y n f. cc }
 
-pub ruleset reading-double = (double_fault, double_there, double_short, double_cut, double_nan, double_got, no_nan)
+pub ruleset reading_double = (double_fault, double_there, double_short, double_cut, double_nan, double_got, no_nan)
 
 -- ---- for callers
 

@@ -13,9 +13,9 @@ abbrev pub number_of : Bytes → Number → Read ℕ
 number_of s (N.Got v n) = got v (drop n s)
 number_of s N.Fault = fault
 
-abbrev pub doubleOf : Bytes → Double → Read Float
-doubleOf s (D.Got x n) = got x (drop n s)
-doubleOf s D.Fault = fault
+abbrev pub double_of : Bytes → Double → Read Float
+double_of s (D.Got x n) = got x (drop n s)
+double_of s D.Fault = fault
 
 -- What is read from `at` on, and the place after it exactly: where a value ends the bytes, what is left does not tell it.
 pub record NumberRead (s : Bytes) (at : ℕ) (r : Number) : Type 0 where
@@ -23,7 +23,7 @@ pub record NumberRead (s : Bytes) (at : ℕ) (r : Number) : Type 0 where
   pub place : (v n : ℕ) → r ≡ N.Got v n → n ≡ at + length (number.write v)
 
 pub record DoubleRead (s : Bytes) (at : ℕ) (r : Double) : Type 0 where
-  pub read : doubleOf s r ≡ double.read (drop at s)
+  pub read : double_of s r ≡ double.read (drop at s)
   pub place : (x : Float) (n : ℕ) → r ≡ D.Got x n → n ≡ at + 8
 
 -- the form stands from `at` on, up to `r`, and nothing else has changed

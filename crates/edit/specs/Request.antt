@@ -5,7 +5,7 @@ use Rattle.rows.specs.Lists.{list_to}
 use Rattle.geometry.specs.Polyline.{point_in}
 use Rattle.map.specs.declared.BulbColor.TheVariants.{Red}
 use Rattle.map.specs.declared.BulbArrow.TheVariants.{NoArrow}
-use Rattle.placing.specs.Answers.{maybeNumber}
+use Rattle.placing.specs.Answers.{maybe_number}
 use Rattle.edit.specs.declared.Height.{Height}
 use Rattle.edit.specs.declared.Height.TheVariants as h
 use Rattle.edit.specs.declared.SignalBulb.{SignalBulb}
@@ -44,5 +44,5 @@ new_traffic_signal lanes q points housing lamps =
       height = height_given q.height;
       kind = q.kind;
       bulbs = lamps_given q.lamps lamps;
-      group = maybeNumber q.group;
+      group = maybe_number q.group;
     }

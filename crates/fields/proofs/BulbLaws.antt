@@ -25,7 +25,7 @@ module _ (s : Bytes) (p x y z : Place) (cs cs1 : List Float) (c : ℕ) (ws ws1 w
         is = place_via (point ⊗ below 4 ⊗ below 9) _ _ _ _ s p z _ (place_then point (below 4 ⊗ below 9) s p x z _ _ k.is (place_then (below 4) (below 9) s x y z _ _ u (m.is ∙ range_below 8 s y)));
       }
 
-pub ruleset reading-bulb = (bulb_got)
+pub ruleset reading_bulb = (bulb_got)
 
 -- k of n bulbs stand in the row; the words were ws₀, and the place q₀, where they begin
 pub record Lit (s : Bytes) (ws₀ : List ℕ) (cs₀ : List Float) (q₀ : Place) (n : ℕ) (ws : List ℕ) (cs : List Float) (q : Place) (k : ℕ) : Type 0 where
@@ -72,4 +72,4 @@ module _ (s : Bytes) (ws₀ : List ℕ) (cs₀ : List Float) (q₀ : Place) (n :
         items = listed_more bulb s _ n k q _ w.items q' (bulb_at ws' cs') h same (rw six at x.is);
       }
 
-pub ruleset reading-bulbs = (bulbs_start, bulbs_more, bulbs_end)
+pub ruleset reading_bulbs = (bulbs_start, bulbs_more, bulbs_end)

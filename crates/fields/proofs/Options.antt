@@ -63,4 +63,4 @@ module _ (s : Bytes) (p : Place) (ws : List ℕ) (o : ℕ) (q : Place) (ws1 : Li
     pub some_height : (cs : List Float) (c : ℕ) (r : Place) (cs2 : List Float) → Cells height 1 cell_at s q cs c r cs2 → OptionHeight s p ws o cs c r ws1 cs2
     some_height cs c r cs2 x = record { words = w.words; coords = x.coords; is = rw a_flag (option_some height s p q r (get_or ws1 o 0) _ z w.is x.is) }
 
-pub ruleset reading-option = (no_line, no_number, no_height, some_line, some_number, some_height)
+pub ruleset reading_option = (no_line, no_number, no_height, some_line, some_number, some_height)

@@ -84,7 +84,7 @@ module _ (s : Bytes) (p : Place) (cs : List Float) (c : ℕ) (h : c < length cs)
       unfolding coordinate only
       cell_got l m = record { coords = changed_at cs c x; is = rw (get_or-set_same cs c x nan h, e, reads, on, l, m) }
 
-pub ruleset reading-cell = (cell_none, cell_cut, cell_low, cell_high, cell_got)
+pub ruleset reading_cell = (cell_none, cell_cut, cell_low, cell_high, cell_got)
 
 -- ---- a height: any finite double
 
@@ -130,7 +130,7 @@ module _ (s : Bytes) (p : Place) (cs : List Float) (c : ℕ) (h : c < length cs)
       unfolding height only
       height_got l m = record { coords = changed_at cs c x; is = rw (get_or-set_same cs c x nan h, e, double_reads, finite, l, m) }
 
-pub ruleset reading-height = (height_none, height_cut, height_low, height_high, height_got)
+pub ruleset reading_height = (height_none, height_cut, height_low, height_high, height_got)
 
 -- ---- a point
 
@@ -146,7 +146,7 @@ module _ (s : Bytes) (p x y z : Place) (a b d e : List Float) (c : ℕ) where
         is = place_via (coordinate ⊗ coordinate ⊗ coordinate) _ _ _ _ s p z _ (place_then coordinate (coordinate ⊗ coordinate) s p x z _ _ u (place_then coordinate coordinate s x y z _ _ v m.is));
       }
 
-pub ruleset reading-point = (point_got)
+pub ruleset reading_point = (point_got)
 
 -- ---- a polyline
 
@@ -178,4 +178,4 @@ module _ (s : Bytes) (cs₀ : List Float) (c : ℕ) (q₀ : Place) (n : ℕ) (cs
         items = listed_more point s _ n k q _ w.items q' (λ i. point_from cs' (c + i * 3)) h same x.is;
       }
 
-pub ruleset reading-line = (lines_start, lines_more, lines_end)
+pub ruleset reading_line = (lines_start, lines_more, lines_end)

@@ -50,7 +50,7 @@ module _ (least most : ℕ) (s : Bytes) (p : Place) (ws : List ℕ) (o : ℕ) (h
           rw (set-set ws o 0 n)
           (record { words = changed_at ws o n; few = rw v m; is = rw (v, e, ← ea.read, fa, le-leb least n l, le-leb n most m) })
 
-pub ruleset reading-word = (word_none, word_cut, word_low, word_high, word_got)
+pub ruleset reading_word = (word_none, word_cut, word_low, word_high, word_got)
 
 -- ---- a list of words
 
@@ -85,4 +85,4 @@ module _ (s : Bytes) (ws₀ : List ℕ) (o : ℕ) (q₀ : Place) (n : ℕ) (ws :
         items = listed_more number s _ n k q _ w.items q' (λ i. get_or ws' (o + 1 + i) 0) h (λ i l. x.words.kept 0 (o + 1 + i) (inl (omega arith))) (x.is ∙ range_any s q);
       }
 
-pub ruleset reading-numbers = (entries_start, entries_more, entries_end)
+pub ruleset reading_numbers = (entries_start, entries_more, entries_end)

@@ -62,4 +62,4 @@ module _ (s : Bytes) (ws : List ℕ) (cs : List Float) (fs : List ℕ) where
       let z : MapReadInto s ws cs R.Done ws' cs' = rw e at y in
       record { is = rw (← z.is, eq-eqb (length fs) 3556 l, c.set); untouched = tt }
 
-pub ruleset opening-map = (open_refused, open_words, open_coords, open_wrong, open_fold, open_done)
+pub ruleset opening_map = (open_refused, open_words, open_coords, open_wrong, open_fold, open_done)

@@ -105,4 +105,4 @@ module _ (s : Bytes) (ws : List ℕ) (cs : List Float) where
     pub file_right : (ws' : List ℕ) (cs' : List Float) (r : Place) → good ≡ true → MapLoaded s ws cs r ws' cs' → MapReadInto s ws cs R.Done ws' cs'
     file_right ws' cs' r h x = record { is = rw (eq-eqb (length ws) 13671 lw, eq-eqb (length cs) 105280 lc) (is_done_lem s ws ws' cs cs' r x (sym g ∙ h)); untouched = tt }
 
-pub ruleset reading-map = (words_wrong, coords_wrong, file_wrong, file_right)
+pub ruleset reading_map = (words_wrong, coords_wrong, file_wrong, file_right)

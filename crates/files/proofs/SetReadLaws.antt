@@ -126,4 +126,4 @@ module _ (s : Bytes) (old : List ℕ) where
             holds true z = refl
             holds false z = sym z
 
-pub ruleset reading-set = (table_wrong, set_lost, set_left, set_none, set_read)
+pub ruleset reading_set = (table_wrong, set_lost, set_left, set_none, set_read)

@@ -132,7 +132,7 @@ module _ (t : List ℕ) (old : Bytes) (p : Bool) (h : p ≡ is_set_in t) where
       pub set-written : (n : ℕ) → q ≡ P.At n → n ≤ length old → (r : Place) (new : Bytes) → PutAt (change_file.write (change_set_of t)) old (P.At 0) r new → ChangesWritten t old (W.Done n) new
       set-written n e l r new y = out_written _ a b q x old _ told n e l r new y
 
-pub ruleset writing-set = (set_wrong, set_right, set_long, set_short, set-written)
+pub ruleset writing_set = (set_wrong, set_right, set_long, set_short, set-written)
 
 -- ---- a map
 
@@ -172,4 +172,4 @@ module _ (ws : List ℕ) (cs : List Float) (old : Bytes) (p : Bool) (h : p ≡ i
       pub map-written : (n : ℕ) → q ≡ P.At n → n ≤ length old → (r : Place) (new : Bytes) → PutAt (map_file.write (map_of ws cs)) old (P.At 0) r new → MapWritten ws cs old (W.Done n) new
       map-written n e l r new y = out_written _ a b q x old _ map_told n e l r new y
 
-pub ruleset writing-map = (map_wrong, map_right, map_long, map_short, map-written)
+pub ruleset writing_map = (map_wrong, map_right, map_long, map_short, map-written)

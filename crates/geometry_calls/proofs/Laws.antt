@@ -131,4 +131,4 @@ line_is cs = rw (length-points cs)
 
 pub ruleset calls = (test_stands, test_passes)
 
-pub ruleset measured-calls = (both_stand, both_pass)
+pub ruleset measured_calls = (both_stand, both_pass)

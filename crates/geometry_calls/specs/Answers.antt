@@ -34,43 +34,43 @@ abbrev pub tested : Tested → Answer (Unit {0})
 tested t.Passed = done tt
 tested (t.Refused r) = refused_as r
 
-abbrev pub numberAnswer : NumberAnswer → Answer Float
-numberAnswer (n.Refused r) = refused_as r
-numberAnswer (n.Number x) = done x
+abbrev pub number_answer : NumberAnswer → Answer Float
+number_answer (n.Refused r) = refused_as r
+number_answer (n.Number x) = done x
 
-abbrev pub truthAnswer : TruthAnswer → Answer Bool
-truthAnswer (b.Refused r) = refused_as r
-truthAnswer (b.Truth x) = done x
+abbrev pub truth_answer : TruthAnswer → Answer Bool
+truth_answer (b.Refused r) = refused_as r
+truth_answer (b.Truth x) = done x
 
-abbrev pub planeAnswer : PlaneAnswer → Answer Point2
-planeAnswer (f.Refused r) = refused_as r
-planeAnswer (f.Point x) = done x
+abbrev pub plane_answer : PlaneAnswer → Answer Point2
+plane_answer (f.Refused r) = refused_as r
+plane_answer (f.Point x) = done x
 
-abbrev pub pointAnswer : PointAnswer → Answer Point3
-pointAnswer (p.Refused r) = refused_as r
-pointAnswer (p.Point x) = done x
+abbrev pub point_answer : PointAnswer → Answer Point3
+point_answer (p.Refused r) = refused_as r
+point_answer (p.Point x) = done x
 
-abbrev pub locationAnswer : LocationAnswer → Answer (Option Location)
-locationAnswer (l.Refused r) = refused_as r
-locationAnswer (l.Found x) = done (maybe_location x)
+abbrev pub location_answer : LocationAnswer → Answer (Option Location)
+location_answer (l.Refused r) = refused_as r
+location_answer (l.Found x) = done (maybe_location x)
 
-abbrev pub placeAnswer : PlaceAnswer → Answer (Option Point3)
-placeAnswer (q.Refused r) = refused_as r
-placeAnswer (q.Found x) = done (maybe_point3 x)
+abbrev pub place_answer : PlaceAnswer → Answer (Option Point3)
+place_answer (q.Refused r) = refused_as r
+place_answer (q.Found x) = done (maybe_point3 x)
 
-abbrev pub directionAnswer : DirectionAnswer → Answer (Option Point2)
-directionAnswer (d.Refused r) = refused_as r
-directionAnswer (d.Found x) = done (maybe_point2 x)
+abbrev pub direction_answer : DirectionAnswer → Answer (Option Point2)
+direction_answer (d.Refused r) = refused_as r
+direction_answer (d.Found x) = done (maybe_point2 x)
 
-abbrev pub nearestAnswer : NearestAnswer → Answer (Option NearestPoint)
-nearestAnswer (o.Refused r) = refused_as r
-nearestAnswer (o.Found x) = done (maybe_nearest x)
+abbrev pub nearest_answer : NearestAnswer → Answer (Option NearestPoint)
+nearest_answer (o.Refused r) = refused_as r
+nearest_answer (o.Found x) = done (maybe_nearest x)
 
-abbrev pub lineAnswer : LineAnswer → Answer Polyline
-lineAnswer a = tested a.tested >> done (points_of a.line)
+abbrev pub line_answer : LineAnswer → Answer Polyline
+line_answer a = tested a.tested >> done (points_of a.line)
 
-abbrev pub centerlineAnswer : LineAnswer → Answer (Option Polyline)
-centerlineAnswer a = tested a.tested >> done (line_option a.line)
+abbrev pub centerline_answer : LineAnswer → Answer (Option Polyline)
+centerline_answer a = tested a.tested >> done (line_option a.line)
 
-abbrev pub stationsAnswer : StationsAnswer → Answer (List Float)
-stationsAnswer a = tested a.tested >> done (stations_of a.stations)
+abbrev pub stations_answer : StationsAnswer → Answer (List Float)
+stations_answer a = tested a.tested >> done (stations_of a.stations)

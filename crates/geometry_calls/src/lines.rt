@@ -1,7 +1,7 @@
 // Calls on a polyline.
 ghost use Rattle.std.specs.Prelude.{◌≡◌};
 ghost use Rattle.geometry.specs.Calls.{length_call, is_valid_call, locate_call, point_at_call, point_at_fraction_call, direction_at_call, nearest_point_call};
-ghost use Rattle.geometry_calls.specs.Answers.{numberAnswer, truthAnswer, locationAnswer, placeAnswer, directionAnswer, nearestAnswer};
+ghost use Rattle.geometry_calls.specs.Answers.{number_answer, truth_answer, location_answer, place_answer, direction_answer, nearest_answer};
 
 use crate::{
     DirectionAnswer, LocationAnswer, NearestAnswer, NumberAnswer, PlaceAnswer, Tested, TruthAnswer,
@@ -12,7 +12,7 @@ use geometry::point::on_map2;
 
 // The length of fewer than two points is +0; the Rust's is -0, and the sign is not compared.
 pub fn length(cs: &[f64]) -> NumberAnswer
-    ensures { numberAnswer result ≡ length_call cs.now }
+    ensures { number_answer result ≡ length_call cs.now }
 {
     match tests::line(cs) {
         Tested::Refused(r) => NumberAnswer::Refused(r),
@@ -21,7 +21,7 @@ pub fn length(cs: &[f64]) -> NumberAnswer
 }
 
 pub fn is_valid(cs: &[f64]) -> TruthAnswer
-    ensures { truthAnswer result ≡ is_valid_call cs.now }
+    ensures { truth_answer result ≡ is_valid_call cs.now }
 {
     match tests::line(cs) {
         Tested::Refused(r) => TruthAnswer::Refused(r),
@@ -30,7 +30,7 @@ pub fn is_valid(cs: &[f64]) -> TruthAnswer
 }
 
 pub fn locate(cs: &[f64], s: f64) -> LocationAnswer
-    ensures { locationAnswer result ≡ locate_call cs.now s }
+    ensures { location_answer result ≡ locate_call cs.now s }
 {
     match tests::line_at(cs, s) {
         Tested::Refused(r) => LocationAnswer::Refused(r),
@@ -39,7 +39,7 @@ pub fn locate(cs: &[f64], s: f64) -> LocationAnswer
 }
 
 pub fn point_at(cs: &[f64], s: f64) -> PlaceAnswer
-    ensures { placeAnswer result ≡ point_at_call cs.now s }
+    ensures { place_answer result ≡ point_at_call cs.now s }
 {
     match tests::line_at(cs, s) {
         Tested::Refused(r) => PlaceAnswer::Refused(r),
@@ -48,7 +48,7 @@ pub fn point_at(cs: &[f64], s: f64) -> PlaceAnswer
 }
 
 pub fn point_at_fraction(cs: &[f64], t: f64) -> PlaceAnswer
-    ensures { placeAnswer result ≡ point_at_fraction_call cs.now t }
+    ensures { place_answer result ≡ point_at_fraction_call cs.now t }
 {
     match tests::line_at(cs, t) {
         Tested::Refused(r) => PlaceAnswer::Refused(r),
@@ -57,7 +57,7 @@ pub fn point_at_fraction(cs: &[f64], t: f64) -> PlaceAnswer
 }
 
 pub fn direction_at(cs: &[f64], s: f64) -> DirectionAnswer
-    ensures { directionAnswer result ≡ direction_at_call cs.now s }
+    ensures { direction_answer result ≡ direction_at_call cs.now s }
 {
     match tests::line_at(cs, s) {
         Tested::Refused(r) => DirectionAnswer::Refused(r),
@@ -66,7 +66,7 @@ pub fn direction_at(cs: &[f64], s: f64) -> DirectionAnswer
 }
 
 pub fn nearest_point(cs: &[f64], p: Point2) -> NearestAnswer
-    ensures { nearestAnswer result ≡ nearest_point_call cs.now p }
+    ensures { nearest_answer result ≡ nearest_point_call cs.now p }
 {
     let ok = tests::both(tests::coords_on_map(cs), on_map2(p));
     match tests::count(ok, cs.len() / 3) {

@@ -1,13 +1,13 @@
 // Calls that make a polyline, or its stations.
 ghost use Rattle.std.specs.Prelude.{◌≡◌};
 ghost use Rattle.geometry.specs.Calls.{stations_call, reversed_call, resample_count_call, centerline_call};
-ghost use Rattle.geometry_calls.specs.Answers.{lineAnswer, centerlineAnswer, stationsAnswer};
+ghost use Rattle.geometry_calls.specs.Answers.{line_answer, centerline_answer, stations_answer};
 
 use crate::{LineAnswer, StationsAnswer, Tested, tests};
 use centerline::Stations;
 
 pub fn stations(cs: &[f64]) -> StationsAnswer
-    ensures { stationsAnswer result ≡ stations_call cs.now }
+    ensures { stations_answer result ≡ stations_call cs.now }
 {
     match tests::line(cs) {
         Tested::Refused(r) => StationsAnswer {
@@ -25,7 +25,7 @@ pub fn stations(cs: &[f64]) -> StationsAnswer
 }
 
 pub fn reversed(cs: &[f64]) -> LineAnswer
-    ensures { lineAnswer result ≡ reversed_call cs.now }
+    ensures { line_answer result ≡ reversed_call cs.now }
 {
     match tests::line(cs) {
         Tested::Refused(r) => LineAnswer {
@@ -40,7 +40,7 @@ pub fn reversed(cs: &[f64]) -> LineAnswer
 }
 
 pub fn resample_count(cs: &[f64], n: usize) -> LineAnswer
-    ensures { lineAnswer result ≡ resample_count_call cs.now n }
+    ensures { line_answer result ≡ resample_count_call cs.now n }
 {
     match tests::count(tests::coords_on_map(cs), tests::larger(n, cs.len() / 3)) {
         Tested::Refused(r) => LineAnswer {
@@ -55,7 +55,7 @@ pub fn resample_count(cs: &[f64], n: usize) -> LineAnswer
 }
 
 pub fn centerline(left: &[f64], right: &[f64]) -> LineAnswer
-    ensures { centerlineAnswer result ≡ centerline_call left.now right.now }
+    ensures { centerline_answer result ≡ centerline_call left.now right.now }
 {
     let ok = tests::both(tests::coords_on_map(left), tests::coords_on_map(right));
     match tests::count(ok, tests::larger(left.len() / 3, right.len() / 3)) {

@@ -1,14 +1,14 @@
 // Calls on vectors: a component is a coordinate, and a factor a fraction.
 ghost use Rattle.std.specs.Prelude.{◌≡◌};
 ghost use Rattle.geometry.specs.Calls.{xy_call, sub2_call, scale2_call, dot_call, cross_call, norm2_call, normalized_call, perp_call, add3_call, sub3_call, scale3_call, norm3_call};
-ghost use Rattle.geometry_calls.specs.Answers.{numberAnswer, planeAnswer, pointAnswer, directionAnswer};
+ghost use Rattle.geometry_calls.specs.Answers.{number_answer, plane_answer, point_answer, direction_answer};
 
 use crate::{DirectionAnswer, NumberAnswer, PlaneAnswer, PointAnswer, Tested, tests};
 use geometry::{Point2, Point3};
 
 // The point's place in the plane.
 pub fn flat(p: Point3) -> PlaneAnswer
-    ensures { planeAnswer result ≡ xy_call p }
+    ensures { plane_answer result ≡ xy_call p }
 {
     match tests::space(p) {
         Tested::Refused(r) => PlaneAnswer::Refused(r),
@@ -17,7 +17,7 @@ pub fn flat(p: Point3) -> PlaneAnswer
 }
 
 pub fn sub2(a: Point2, b: Point2) -> PlaneAnswer
-    ensures { planeAnswer result ≡ sub2_call a b }
+    ensures { plane_answer result ≡ sub2_call a b }
 {
     match tests::plane_pair(a, b) {
         Tested::Refused(r) => PlaneAnswer::Refused(r),
@@ -26,7 +26,7 @@ pub fn sub2(a: Point2, b: Point2) -> PlaneAnswer
 }
 
 pub fn scale2(a: Point2, t: f64) -> PlaneAnswer
-    ensures { planeAnswer result ≡ scale2_call a t }
+    ensures { plane_answer result ≡ scale2_call a t }
 {
     match tests::then_measure(tests::plane(a), t) {
         Tested::Refused(r) => PlaneAnswer::Refused(r),
@@ -35,7 +35,7 @@ pub fn scale2(a: Point2, t: f64) -> PlaneAnswer
 }
 
 pub fn dot(a: Point2, b: Point2) -> NumberAnswer
-    ensures { numberAnswer result ≡ dot_call a b }
+    ensures { number_answer result ≡ dot_call a b }
 {
     match tests::plane_pair(a, b) {
         Tested::Refused(r) => NumberAnswer::Refused(r),
@@ -44,7 +44,7 @@ pub fn dot(a: Point2, b: Point2) -> NumberAnswer
 }
 
 pub fn cross(a: Point2, b: Point2) -> NumberAnswer
-    ensures { numberAnswer result ≡ cross_call a b }
+    ensures { number_answer result ≡ cross_call a b }
 {
     match tests::plane_pair(a, b) {
         Tested::Refused(r) => NumberAnswer::Refused(r),
@@ -53,7 +53,7 @@ pub fn cross(a: Point2, b: Point2) -> NumberAnswer
 }
 
 pub fn norm2(a: Point2) -> NumberAnswer
-    ensures { numberAnswer result ≡ norm2_call a }
+    ensures { number_answer result ≡ norm2_call a }
 {
     match tests::plane(a) {
         Tested::Refused(r) => NumberAnswer::Refused(r),
@@ -63,7 +63,7 @@ pub fn norm2(a: Point2) -> NumberAnswer
 
 // The unit vector, where the norm is above 1e-9.
 pub fn normalized(a: Point2) -> DirectionAnswer
-    ensures { directionAnswer result ≡ normalized_call a }
+    ensures { direction_answer result ≡ normalized_call a }
 {
     match tests::plane(a) {
         Tested::Refused(r) => DirectionAnswer::Refused(r),
@@ -73,7 +73,7 @@ pub fn normalized(a: Point2) -> DirectionAnswer
 
 // Rotated by a quarter to the left.
 pub fn perp(a: Point2) -> PlaneAnswer
-    ensures { planeAnswer result ≡ perp_call a }
+    ensures { plane_answer result ≡ perp_call a }
 {
     match tests::plane(a) {
         Tested::Refused(r) => PlaneAnswer::Refused(r),
@@ -82,7 +82,7 @@ pub fn perp(a: Point2) -> PlaneAnswer
 }
 
 pub fn add3(a: Point3, b: Point3) -> PointAnswer
-    ensures { pointAnswer result ≡ add3_call a b }
+    ensures { point_answer result ≡ add3_call a b }
 {
     match tests::space_pair(a, b) {
         Tested::Refused(r) => PointAnswer::Refused(r),
@@ -91,7 +91,7 @@ pub fn add3(a: Point3, b: Point3) -> PointAnswer
 }
 
 pub fn sub3(a: Point3, b: Point3) -> PointAnswer
-    ensures { pointAnswer result ≡ sub3_call a b }
+    ensures { point_answer result ≡ sub3_call a b }
 {
     match tests::space_pair(a, b) {
         Tested::Refused(r) => PointAnswer::Refused(r),
@@ -100,7 +100,7 @@ pub fn sub3(a: Point3, b: Point3) -> PointAnswer
 }
 
 pub fn scale3(a: Point3, t: f64) -> PointAnswer
-    ensures { pointAnswer result ≡ scale3_call a t }
+    ensures { point_answer result ≡ scale3_call a t }
 {
     match tests::then_measure(tests::space(a), t) {
         Tested::Refused(r) => PointAnswer::Refused(r),
@@ -109,7 +109,7 @@ pub fn scale3(a: Point3, t: f64) -> PointAnswer
 }
 
 pub fn norm3(a: Point3) -> NumberAnswer
-    ensures { numberAnswer result ≡ norm3_call a }
+    ensures { number_answer result ≡ norm3_call a }
 {
     match tests::space(a) {
         Tested::Refused(r) => NumberAnswer::Refused(r),

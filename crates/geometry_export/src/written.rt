@@ -1,7 +1,7 @@
 // Answers written into lent arrays, and their codes.
 ghost use Rattle.std.specs.Prelude.{◌≡◌, cond};
 ghost use Rattle.told.specs.Told.{Told, always, perhaps};
-ghost use Rattle.geometry_calls.specs.Answers.{numberAnswer, truthAnswer, planeAnswer, pointAnswer, locationAnswer, placeAnswer, directionAnswer, nearestAnswer, lineAnswer, centerlineAnswer, stationsAnswer};
+ghost use Rattle.geometry_calls.specs.Answers.{number_answer, truth_answer, plane_answer, point_answer, location_answer, place_answer, direction_answer, nearest_answer, line_answer, centerline_answer, stations_answer};
 ghost use Rattle.geometry_export.specs.Lent.{lent, word_in, number_in, plane_in, space_in, location_in, nearest_in, line_in, stations_in, flagged};
 
 use geometry::{MaybeLocation, MaybeNearest, MaybePoint2, MaybePoint3};
@@ -14,7 +14,7 @@ use geometry_calls::{
 pub const NO_ANSWER: u64 = 254;
 
 pub fn number(a: NumberAnswer, out: &mut [f64; 1]) -> u64
-    ensures { Told (always (numberAnswer a)) number_in result out.old out.new }
+    ensures { Told (always (number_answer a)) number_in result out.old out.new }
 {
     match a {
         NumberAnswer::Refused(x) => refusal::number(x),
@@ -26,7 +26,7 @@ pub fn number(a: NumberAnswer, out: &mut [f64; 1]) -> u64
 }
 
 pub fn plane(a: PlaneAnswer, out: &mut [f64; 2]) -> u64
-    ensures { Told (always (planeAnswer a)) plane_in result out.old out.new }
+    ensures { Told (always (plane_answer a)) plane_in result out.old out.new }
 {
     match a {
         PlaneAnswer::Refused(x) => refusal::number(x),
@@ -38,7 +38,7 @@ pub fn plane(a: PlaneAnswer, out: &mut [f64; 2]) -> u64
 }
 
 pub fn space(a: PointAnswer, out: &mut [f64; 3]) -> u64
-    ensures { Told (always (pointAnswer a)) space_in result out.old out.new }
+    ensures { Told (always (point_answer a)) space_in result out.old out.new }
 {
     match a {
         PointAnswer::Refused(x) => refusal::number(x),
@@ -57,7 +57,7 @@ pub fn flag(b: bool) -> u64
 }
 
 pub fn truth(a: TruthAnswer, word: &mut [u64; 1]) -> u64
-    ensures { Told (always (flagged (truthAnswer a))) word_in result word.old word.new }
+    ensures { Told (always (flagged (truth_answer a))) word_in result word.old word.new }
 {
     match a {
         TruthAnswer::Refused(x) => refusal::number(x),
@@ -69,7 +69,7 @@ pub fn truth(a: TruthAnswer, word: &mut [u64; 1]) -> u64
 }
 
 pub fn place(a: PlaceAnswer, out: &mut [f64; 3]) -> u64
-    ensures { Told (perhaps (placeAnswer a)) space_in result out.old out.new }
+    ensures { Told (perhaps (place_answer a)) space_in result out.old out.new }
 {
     match a {
         PlaceAnswer::Refused(x) => refusal::number(x),
@@ -84,7 +84,7 @@ pub fn place(a: PlaceAnswer, out: &mut [f64; 3]) -> u64
 }
 
 pub fn direction(a: DirectionAnswer, out: &mut [f64; 2]) -> u64
-    ensures { Told (perhaps (directionAnswer a)) plane_in result out.old out.new }
+    ensures { Told (perhaps (direction_answer a)) plane_in result out.old out.new }
 {
     match a {
         DirectionAnswer::Refused(x) => refusal::number(x),
@@ -99,7 +99,7 @@ pub fn direction(a: DirectionAnswer, out: &mut [f64; 2]) -> u64
 }
 
 pub fn location(a: LocationAnswer, fraction: &mut [f64; 1], segment: &mut [u64; 1]) -> u64
-    ensures { Told (perhaps (locationAnswer a)) location_in result (lent fraction.old segment.old) (lent fraction.new segment.new) }
+    ensures { Told (perhaps (location_answer a)) location_in result (lent fraction.old segment.old) (lent fraction.new segment.new) }
 {
     match a {
         LocationAnswer::Refused(x) => refusal::number(x),
@@ -115,7 +115,7 @@ pub fn location(a: LocationAnswer, fraction: &mut [f64; 1], segment: &mut [u64; 
 }
 
 pub fn nearest(a: NearestAnswer, out: &mut [f64; 6], segment: &mut [u64; 1]) -> u64
-    ensures { Told (perhaps (nearestAnswer a)) nearest_in result (lent out.old segment.old) (lent out.new segment.new) }
+    ensures { Told (perhaps (nearest_answer a)) nearest_in result (lent out.old segment.old) (lent out.new segment.new) }
 {
     match a {
         NearestAnswer::Refused(x) => refusal::number(x),
@@ -132,7 +132,7 @@ pub fn nearest(a: NearestAnswer, out: &mut [f64; 6], segment: &mut [u64; 1]) -> 
 }
 
 pub fn line(a: LineAnswer, out: &mut [f64; 192], count: &mut [u64; 1]) -> u64
-    ensures { Told (always (lineAnswer a)) line_in result (lent out.old count.old) (lent out.new count.new) }
+    ensures { Told (always (line_answer a)) line_in result (lent out.old count.old) (lent out.new count.new) }
 {
     let t = a.tested;
     match t {
@@ -149,7 +149,7 @@ pub fn line(a: LineAnswer, out: &mut [f64; 192], count: &mut [u64; 1]) -> u64
 
 // A line without points is no centreline.
 pub fn center(a: LineAnswer, out: &mut [f64; 192], count: &mut [u64; 1]) -> u64
-    ensures { Told (perhaps (centerlineAnswer a)) line_in result (lent out.old count.old) (lent out.new count.new) }
+    ensures { Told (perhaps (centerline_answer a)) line_in result (lent out.old count.old) (lent out.new count.new) }
 {
     let t = a.tested;
     match t {
@@ -168,7 +168,7 @@ pub fn center(a: LineAnswer, out: &mut [f64; 192], count: &mut [u64; 1]) -> u64
 }
 
 pub fn stations(a: StationsAnswer, out: &mut [f64; 64], count: &mut [u64; 1]) -> u64
-    ensures { Told (always (stationsAnswer a)) stations_in result (lent out.old count.old) (lent out.new count.new) }
+    ensures { Told (always (stations_answer a)) stations_in result (lent out.old count.old) (lent out.new count.new) }
 {
     let t = a.tested;
     match t {

@@ -26,7 +26,7 @@ use Rattle.map.proofs.ReplaceLaws.{found_number, rule_replaced}
 use Rattle.place.specs.Readable.{ReadableWords}
 use Rattle.placing.specs.declared.MaybeNumber.{MaybeNumber}
 use Rattle.placing.specs.declared.MaybeNumber.TheVariants as n
-use Rattle.placing.specs.Answers.{maybeNumber}
+use Rattle.placing.specs.Answers.{maybe_number}
 use Rattle.edit.specs.Light.{extended, joined_lanes}
 use Rattle.grouping.specs.declared.LineWords.{LineWords}
 use Rattle.grouping.specs.Group.{JoinedRead, line_words, LineKept, joined_rule, GroupPut}
@@ -116,16 +116,16 @@ module _ (h : RuleHead) where
   own_line t = rw t
 
 module _ (a b : MaybeNumber) where
-  pub first_some : (s : ℕ) → a ≡ n.At s → some s ≡ or_else (maybeNumber a) (maybeNumber b)
+  pub first_some : (s : ℕ) → a ≡ n.At s → some s ≡ or_else (maybe_number a) (maybe_number b)
   first_some s q = rw q
 
 module _ (l : MaybeNumber) where
-  pub words_some : (s : ℕ) → l ≡ n.At s → some s ≡ maybeNumber l
+  pub words_some : (s : ℕ) → l ≡ n.At s → some s ≡ maybe_number l
   words_some s q = rw q
 
-pub line_kept : (h : RuleHead) (line own first : MaybeNumber) (w : LineWords) → maybeNumber own ≡ cond h.has_line (some h.line) none
-    → maybeNumber first ≡ or_else (maybeNumber own) (maybeNumber line) → line_words w ≡ maybeNumber first → LineKept h line w
-line_kept h line own first w eo ef ew = record { answer = ew ∙ ef ∙ ap (λ (o : Option ℕ). or_else o (maybeNumber line)) eo }
+pub line_kept : (h : RuleHead) (line own first : MaybeNumber) (w : LineWords) → maybe_number own ≡ cond h.has_line (some h.line) none
+    → maybe_number first ≡ or_else (maybe_number own) (maybe_number line) → line_words w ≡ maybe_number first → LineKept h line w
+line_kept h line own first w eo ef ew = record { answer = ew ∙ ef ∙ ap (λ (o : Option ℕ). or_else o (maybe_number line)) eo }
 
 -- ---- the rule put
 
@@ -161,11 +161,11 @@ module _ (ws : List ℕ) (ok : ReadableWords ws) (i : ℕ) (here : i < count_of 
   unfolding own
   rule₁ c = ap (λ (r : List ℕ). rule_in r c) a.row ∙ with_signals (row_of ws 5 i) long c _ signals_short kind (ok.lanes i here) (ok.controlled i here)
 
-  lines : line_words w ≡ or_else own (maybeNumber line)
+  lines : line_words w ≡ or_else own (maybe_number line)
   unfolding own
   lines = ew.answer ∙ rw (read.has_line, read.line)
 
-  body : (c : List Float) → light (list_at (row_of ws 5 i) 41 ++ (x ∷ [])) (or_else own (maybeNumber line)) ≡ extended (rule_in (row_of ws 5 i) c).body x (maybeNumber line)
+  body : (c : List Float) → light (list_at (row_of ws 5 i) 41 ++ (x ∷ [])) (or_else own (maybe_number line)) ≡ extended (rule_in (row_of ws 5 i) c).body x (maybe_number line)
   unfolding rule_in extended own
   body c = rw kind
 
@@ -173,7 +173,7 @@ module _ (ws : List ℕ) (ok : ReadableWords ws) (i : ℕ) (here : i < count_of 
     pub lanes_ready : SizedWords ws₂ × (i < count_of ws₂ 5) × (7 + 1 + length lanes ≤ 92)
     lanes_ready = (put_sized ws₁ i _ ws₂ b, omega (arith, a.count, b.count), omega arith)
 
-    rule_is : (c : List Float) → rule_in (with_list (row_of ws₂ 5 i) 7 lanes) c ≡ joined_rule (rule_in (row_of ws 5 i) c) x (maybeNumber line) lanes
+    rule_is : (c : List Float) → rule_in (with_list (row_of ws₂ 5 i) 7 lanes) c ≡ joined_rule (rule_in (row_of ws 5 i) c) x (maybe_number line) lanes
     rule_is c =
         with_lanes_lem (row_of ws₂ 5 i) (row_long ws₂ lanes_ready.0 i lanes_ready.1) lanes short c
         ∙ ap (λ (r : Rule). rule_with r r.body lanes r.controlled)
@@ -194,6 +194,6 @@ module _ (ws : List ℕ) (ok : ReadableWords ws) (i : ℕ) (here : i < count_of 
 -- what is put is what the definition replaces
 pub group_replaced : (ws : List ℕ) (cs : List Float) (g i x : ℕ) (line : MaybeNumber) (lanes ws' : List ℕ) → lookup ws 5 g ≡ At i
     → rising (λ (r : Rule). r.num) 0 (map_of ws cs).next (map_of ws cs).rules ≡ true → length cs ≡ all_coords → GroupPut ws i x line lanes ws'
-    → map_of ws' cs ≡ with_rules (map_of ws cs) (replaced (λ (r : Rule). r.num) (joined_rule (rule_in (row_of ws 5 i) (coords_of cs 5 i)) x (maybeNumber line) lanes) (map_of ws cs).rules)
+    → map_of ws' cs ≡ with_rules (map_of ws cs) (replaced (λ (r : Rule). r.num) (joined_rule (rule_in (row_of ws 5 i) (coords_of cs 5 i)) x (maybe_number line) lanes) (map_of ws cs).rules)
 group_replaced ws cs g i x line lanes ws' e up l p =
     p.map cs l ∙ ap (with_rules (map_of ws cs)) (sym (rule_replaced ws cs g i e up _ (found_number ws cs g i e)))

@@ -9,7 +9,7 @@ use Rattle.map.specs.Record.{Rule}
 use Rattle.map.specs.Rows.{rule_with, with_rules}
 use Rattle.map.specs.Tables.{rule_in, map_of}
 use Rattle.placing.specs.declared.MaybeNumber.{MaybeNumber}
-use Rattle.placing.specs.Answers.{maybeNumber}
+use Rattle.placing.specs.Answers.{maybe_number}
 use Rattle.edit.specs.Light.{extended, joined_lanes}
 use Rattle.grouping.specs.declared.LineWords.{LineWords}
 
@@ -23,7 +23,7 @@ abbrev pub line_words : LineWords → Option ℕ
 line_words w = cond (not (eqb w.flag 0)) (some w.number) none
 
 pub record LineKept (h : RuleHead) (line : MaybeNumber) (w : LineWords) : Type 0 where
-  pub answer : line_words w ≡ or_else (cond h.has_line (some h.line) none) (maybeNumber line)
+  pub answer : line_words w ≡ or_else (cond h.has_line (some h.line) none) (maybe_number line)
 
 -- the rule as the definition's `grouped` replaces it
 abbrev pub joined_rule : Rule → ℕ → Option ℕ → List ℕ → Rule
@@ -31,6 +31,6 @@ joined_rule r n line lanes = rule_with r (extended r.body n line) lanes r.contro
 
 pub record GroupPut (ws : List ℕ) (i n : ℕ) (line : MaybeNumber) (lanes ws' : List ℕ) : Type 0 where
   pub map : (cs : List Float) → length cs ≡ all_coords → map_of ws' cs
-      ≡ with_rules (map_of ws cs) (set (map_of ws cs).rules i (joined_rule (rule_in (row_of ws 5 i) (coords_of cs 5 i)) n (maybeNumber line) lanes))
+      ≡ with_rules (map_of ws cs) (set (map_of ws cs).rules i (joined_rule (rule_in (row_of ws 5 i) (coords_of cs 5 i)) n (maybe_number line) lanes))
   pub count : count_of ws' 5 ≡ count_of ws 5
   pub kept : (cs : List Float) → length cs ≡ all_coords → Kept ws cs 5 ws' cs

@@ -8,7 +8,7 @@ ghost use Rattle.store.specs.Layout.{SizedWords, count_of, row_of};
 ghost use Rattle.map.specs.Tables.{list_at};
 ghost use Rattle.map.specs.Updates.{RulePut, with_list};
 ghost use Rattle.place.specs.Readable.{ReadableWords};
-ghost use Rattle.placing.specs.Answers.{maybeNumber};
+ghost use Rattle.placing.specs.Answers.{maybe_number};
 ghost use Rattle.grouping.specs.Group.{JoinedRead, line_words, LineKept, GroupPut};
 
 use map::{Entries, RuleHead, lookup, update};
@@ -61,7 +61,7 @@ fn put_signal(words: &mut [u64], i: usize, signal: u64)
 }
 
 fn own_line(h: RuleHead) -> MaybeNumber
-    ensures { maybeNumber result ≡ cond h.has_line (some h.line) none }
+    ensures { maybe_number result ≡ cond h.has_line (some h.line) none }
 {
     if h.has_line {
         return MaybeNumber::At(h.line);
@@ -70,7 +70,7 @@ fn own_line(h: RuleHead) -> MaybeNumber
 }
 
 fn first_of(a: MaybeNumber, b: MaybeNumber) -> MaybeNumber
-    ensures { maybeNumber result ≡ or_else (maybeNumber a) (maybeNumber b) }
+    ensures { maybe_number result ≡ or_else (maybe_number a) (maybe_number b) }
 {
     let MaybeNumber::At(s) = a else {
         return b;
@@ -79,7 +79,7 @@ fn first_of(a: MaybeNumber, b: MaybeNumber) -> MaybeNumber
 }
 
 fn line_words(l: MaybeNumber) -> LineWords
-    ensures { line_words result ≡ maybeNumber l }
+    ensures { line_words result ≡ maybe_number l }
 {
     let MaybeNumber::At(s) = l else {
         return LineWords { flag: 0, number: 0 };

@@ -7,7 +7,7 @@ ghost use Rattle.store.specs.Layout.{SizedWords, next_of};
 ghost use Rattle.map.specs.Entity.{entity};
 ghost use Rattle.changes.specs.Layout.{set_words};
 ghost use Rattle.place.specs.Readable.{ReadableWords};
-ghost use Rattle.placing.specs.Answers.{maybeNumber};
+ghost use Rattle.placing.specs.Answers.{maybe_number};
 ghost use Rattle.lifting.specs.Noting.{AllFit};
 ghost use Rattle.light_draft.specs.Drafting.{one_if, LineNumbered, NumbersMade, LightNumbered, PushAsks, PushedIf, WarnAsks, WarnedIf, NotedIf, SetDrafted};
 
@@ -128,7 +128,7 @@ fn joined_light(l: LineNumber, first: u64, group: u64) -> Light
 // The numbers of a light.
 pub fn light_of(words: &[u64], plan: LinePlan, group: MaybeNumber) -> Light
     requires { SizedWords words.now }
-    ensures { LightNumbered (next_of words.now) plan (maybeNumber group) result }
+    ensures { LightNumbered (next_of words.now) plan (maybe_number group) result }
 {
     let first = update::fresh(words);
     let l = line_number(plan, first);

@@ -39,7 +39,7 @@ use Rattle.place.specs.Place.{Placed}
 use Rattle.place.specs.Values.{Roomy, maybe_ends}
 use Rattle.placing.specs.declared.Checked.{Checked}
 use Rattle.placing.specs.declared.Checked.TheVariants.{Fine, Refused}
-use Rattle.placing.specs.Answers.{checked, maybeNumber}
+use Rattle.placing.specs.Answers.{checked, maybe_number}
 use Rattle.edit.specs.Request.{new_traffic_signal}
 use Rattle.signal_row.specs.declared.Bulbs.{Bulbs}
 use Rattle.edit.specs.declared.SignalRequest.{SignalRequest}
@@ -329,7 +329,7 @@ module _ (ws : List ℕ) (cs : List Float) (ok : is_map_tables ws cs ≡ true) (
     ready = λ f. absurd (let z : ◌≡◌ {A = ℕ} 0 1 = cc in omega arith);
   }
 
-  module _ (k : lp.checked ≡ Fine) (hn : LightNumbered (next_of ws) lp.plan (maybeNumber q.group) l) (hb : BulbsRead q (points_of lp.housing) lamps b) (hj : JoinedFor ws l.joins l.rule lanes e)
+  module _ (k : lp.checked ≡ Fine) (hn : LightNumbered (next_of ws) lp.plan (maybe_number q.group) l) (hb : BulbsRead q (points_of lp.housing) lamps b) (hj : JoinedFor ws l.joins l.rule lanes e)
       (on : Bool) (eo : on ≡ lamps_on q.lamps.given lamps b) (r : Checked) (hf : Fitted ws lanes l lp.line lp.housing on b.count e r) where
     hl : light_plan asked (map_of ws cs) ≡ done (planned_in lanes all)
     hl = sym planned_so ∙ rw k

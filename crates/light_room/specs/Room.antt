@@ -69,8 +69,8 @@ unfoldable pub counts_fit : ℕ → ℕ → ℕ → Bool → Bool → ℕ → Bo
 counts_fit lines signals rules drawn joins freed = leb (lines + one_if drawn) 64 && (leb (signals + 1) 64 && leb (rules + one_if (not joins)) (128 + freed))
 
 unfoldable pub room_for : ℕ → ℕ → ℕ → ℕ → Bool → Bool → ℕ → ℕ → ℕ → ℕ → Bool → Bool
-room_for lines signals rules used drawn joins freedRules freedPoints more bulbs lists =
-    counts_fit lines signals rules drawn joins freedRules && (leb bulbs 4 && (lists && leb (used + more) (1024 + freedPoints)))
+room_for lines signals rules used drawn joins freed_rules freed_points more bulbs lists =
+    counts_fit lines signals rules drawn joins freed_rules && (leb bulbs 4 && (lists && leb (used + more) (1024 + freed_points)))
 
 pub record RoomTested (ws lanes : List ℕ) (l : Light) (line housing : Line) (count : ℕ) (joined : Entries) (r : Checked) : Type 0 where
   pub freed : Freed

@@ -30,7 +30,7 @@ use Rattle.place.specs.Readable.{ReadableWords, Readable}
 use Rattle.place.specs.Values.{Roomy}
 use Rattle.place.proofs.LineLaws.{line_part_lem}
 use Rattle.placing.specs.declared.MaybeNumber.{MaybeNumber}
-use Rattle.placing.specs.Answers.{maybeNumber}
+use Rattle.placing.specs.Answers.{maybe_number}
 use Rattle.lifting.specs.Applying.{LiftsApplied}
 use Rattle.lifting.specs.Lifting.{entries_of}
 use Rattle.signal_row.specs.declared.SignalRow.{SignalRow}
@@ -77,10 +77,10 @@ line_there l e = rw e
 pub line_missing : (l : Light) → l.has_line ≡ false → Rattle.placing.specs.declared.MaybeNumber.TheVariants.Nothing ≡ line_maybe l
 line_missing l e = rw e
 
-pub line_is : (l : Light) → maybeNumber (line_maybe l) ≡ line_in l
+pub line_is : (l : Light) → maybe_number (line_maybe l) ≡ line_in l
 line_is l = go l.has_line
   where
-    go : (b : Bool) → maybeNumber (cond b (Rattle.placing.specs.declared.MaybeNumber.TheVariants.At l.line) Rattle.placing.specs.declared.MaybeNumber.TheVariants.Nothing) ≡ cond b (some l.line) none
+    go : (b : Bool) → maybe_number (cond b (Rattle.placing.specs.declared.MaybeNumber.TheVariants.At l.line) Rattle.placing.specs.declared.MaybeNumber.TheVariants.Nothing) ≡ cond b (some l.line) none
     go true = refl
     go false = refl
 
@@ -272,8 +272,8 @@ module _ (ws : List ℕ) (cs : List Float) (lanes : List ℕ) (l : Light) (line 
           let p = h2.put j i e in
           let up : rising (λ (r : Rule). r.num) 0 (map_of ws1 cs1).next (map_of ws1 cs1).rules ≡ true = rw h1.map (first_rises (map_of ws cs) (line_in l) lanes asks.rises) in (
             group_replaced ws1 cs1 l.rule i l.signal (line_maybe l) (entries_of joined) ws2 e up h1.readable.coords p
-                ∙ ap (λ (x : Map). with_rules x (replaced (λ (y : Rule). y.num) (joined_rule (rule_in (row_of ws1 5 i) (coords_of cs1 5 i)) l.signal (maybeNumber (line_maybe l)) (entries_of joined)) x.rules)) h1.map
-                ∙ ap (λ (r : Rule). with_rules one (replaced (λ (y : Rule). y.num) (joined_rule r l.signal (maybeNumber (line_maybe l)) (entries_of joined)) one.rules)) (its_rule j i e)
+                ∙ ap (λ (x : Map). with_rules x (replaced (λ (y : Rule). y.num) (joined_rule (rule_in (row_of ws1 5 i) (coords_of cs1 5 i)) l.signal (maybe_number (line_maybe l)) (entries_of joined)) x.rules)) h1.map
+                ∙ ap (λ (r : Rule). with_rules one (replaced (λ (y : Rule). y.num) (joined_rule r l.signal (maybe_number (line_maybe l)) (entries_of joined)) one.rules)) (its_rule j i e)
                 ∙ ap (λ (o : Option ℕ). with_rules one (replaced (λ (y : Rule). y.num) (joined_rule (group j).joins.rule l.signal o (entries_of joined)) one.rules)) (line_is l)
                 ∙ ap (λ (ls : List ℕ). with_rules one (replaced (λ (y : Rule). y.num) (joined_rule (group j).joins.rule l.signal (line_in l) ls) one.rules)) (group j).all
                 ∙ sym (ap (two_of one l.signal (line_in l) lanes) (group_in_lem (map_of ws cs) l true j ∙ (group j).joins.found)),

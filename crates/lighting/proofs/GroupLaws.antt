@@ -29,7 +29,7 @@ use Rattle.placing.specs.declared.Checked.{Checked}
 use Rattle.placing.specs.declared.Checked.TheVariants.{Fine, Refused}
 use Rattle.placing.specs.declared.MaybeNumber.{MaybeNumber}
 use Rattle.placing.specs.declared.MaybeNumber.TheVariants.{At, Nothing}
-use Rattle.placing.specs.Answers.{checked, maybeNumber}
+use Rattle.placing.specs.Answers.{checked, maybe_number}
 use Rattle.placing.proofs.CheckLaws.{no_entries_lem, some_entries}
 use Rattle.edit.specs.declared.StopLineChoice.{StopLineChoice}
 use Rattle.edit.specs.declared.StopLineChoice.TheVariants as ch
@@ -108,7 +108,7 @@ module _ (ws : List ℕ) (group : MaybeNumber) where
                     ∙ rw (q, rule_at_lem cs, none_listed (row_of ws 5 i) 24 (sym ew ∙ z), other_kind (get_or (row_of ws 5 i) 1 0) (row_of ws 5 i) (coords_of cs 5 i) (λ y. n (read.kind ∙ y)));
               }
 
-          pub group_light : (l : MaybeNumber) → h.kind ≡ 1 → maybeNumber l ≡ head_line h → GroupRead ws group (record { checked = Fine; line = l })
+          pub group_light : (l : MaybeNumber) → h.kind ≡ 1 → maybe_number l ≡ head_line h → GroupRead ws group (record { checked = Fine; line = l })
           unfolding group_line rule_in
           group_light l n k =
               record {
@@ -143,10 +143,10 @@ module _ (ws : List ℕ) (group : MaybeNumber) (s : ℕ) (r : Found) (e : r ≡ 
 
 -- ---- a new line
 
-pub new_free : (group : MaybeNumber) → group ≡ Nothing → checked Fine ≡ check_new (maybeNumber group)
+pub new_free : (group : MaybeNumber) → group ≡ Nothing → checked Fine ≡ check_new (maybe_number group)
 new_free group q = rw q
 
-pub new_taken : (group : MaybeNumber) (g : ℕ) → group ≡ At g → checked (Refused (WrongGroup 4)) ≡ check_new (maybeNumber group)
+pub new_taken : (group : MaybeNumber) (g : ℕ) → group ≡ At g → checked (Refused (WrongGroup 4)) ≡ check_new (maybe_number group)
 new_taken group g q = rw q
 
 -- ---- no line
@@ -166,7 +166,7 @@ module _ (ws : List ℕ) (group : MaybeNumber) (choice : StopLineChoice) where
   unfolding check_choice
   choice_automatic q = record { answer = λ cs. rw q }
 
-  pub choice_new : (how : Placement) (r : Checked) → choice ≡ ch.New how → checked r ≡ check_new (maybeNumber group) → ChoiceChecked ws group choice r
+  pub choice_new : (how : Placement) (r : Checked) → choice ≡ ch.New how → checked r ≡ check_new (maybe_number group) → ChoiceChecked ws group choice r
   unfolding check_choice
   choice_new how r q h = record { answer = λ cs. rw q h }
 

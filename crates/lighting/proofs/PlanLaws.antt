@@ -35,13 +35,13 @@ use Rattle.place.specs.Place.{Placed, Section, check_polyline, lane_centerline, 
 use Rattle.place.specs.Readable.{Readable}
 use Rattle.place.specs.Steps.{section_on}
 use Rattle.place.specs.Values.{maybe_line, Roomy, LineRead, section_answer, maybe_ends}
-use Rattle.place.proofs.Answers.{never, done-is}
+use Rattle.place.proofs.Answers.{never, done_is}
 use Rattle.place.proofs.LineLaws.{line_part_lem, found_below, found_within, part_few}
 use Rattle.place.proofs.SectionLaws.{cross_section_is}
 use Rattle.placing.specs.declared.Checked.{Checked}
 use Rattle.placing.specs.declared.Checked.TheVariants.{Fine, Refused}
 use Rattle.placing.specs.declared.PlacedLine.{PlacedLine}
-use Rattle.placing.specs.Answers.{checked, LanesChecked, placedAnswer, RefusedWith}
+use Rattle.placing.specs.Answers.{checked, LanesChecked, placed_answer, RefusedWith}
 use Rattle.placing.proofs.CheckLaws.{shape_few, lanes_there}
 use Rattle.placing.proofs.PlaceLaws.{across_room, given_room}
 use Rattle.edit.specs.declared.Height.{Height}
@@ -224,10 +224,10 @@ module _ (m : Map) (lanes : List ℕ) (c : MaybeLine) (read : CenterAt m (get_or
 -- ---- the anchor
 
 -- a line that is only read has no names
-no_ends_lem : {A : Type 0} (n : ℕ) (a : PlacedLine) (x : Answer A) (u : A → Polyline) → placedAnswer n a ≡ (x >>= λ y. done (record { points = u y; warnings = []; ends = none })) → a.checked ≡ Fine
+no_ends_lem : {A : Type 0} (n : ℕ) (a : PlacedLine) (x : Answer A) (u : A → Polyline) → placed_answer n a ≡ (x >>= λ y. done (record { points = u y; warnings = []; ends = none })) → a.checked ≡ Fine
     → maybe_ends a.ends ≡ none
 no_ends_lem n a (refused i ds) u e q = never (sym (rw q at e))
-no_ends_lem n a (done y) u e q = ap (λ (p : Placed). p.ends) (done-is (rw q at e))
+no_ends_lem n a (done y) u e q = ap (λ (p : Placed). p.ends) (done_is (rw q at e))
 
 module _ (m : Map) (lanes : List ℕ) (plan : LinePlan) (points : List Float) (a : PlacedLine) where
   pub anchor_used : (x : ℕ) → plan ≡ Use x → StoredRead m x a → AnchorRead m lanes plan points a
@@ -254,7 +254,7 @@ module _ (m : Map) (lanes : List ℕ) (plan : LinePlan) (points : List Float) (a
         room = k.room;
       }
 
-  pub anchor_drawn : (how : Placement) → plan ≡ Draw how → placedAnswer (get_or lanes 0 0) a ≡ place_stop_line m lanes how points → Roomy a.line → AnchorRead m lanes plan points a
+  pub anchor_drawn : (how : Placement) → plan ≡ Draw how → placed_answer (get_or lanes 0 0) a ≡ place_stop_line m lanes how points → Roomy a.line → AnchorRead m lanes plan points a
   unfolding chosen_plan anchor_for draw_plan
   anchor_drawn how q k w =
       record {
@@ -300,7 +300,7 @@ light_is m lanes plan points given cs center a r ec ea er =
     let o : Option (List Float) = cond given (some cs) none in
     record {
       answer = er.answer n
-          ∙ bind_same (placedAnswer n a) (λ p. housing_on (maybe_line center) p.points o >>= λ k. done (record { plan = plan_of plan p; housing = k }))
+          ∙ bind_same (placed_answer n a) (λ p. housing_on (maybe_line center) p.points o >>= λ k. done (record { plan = plan_of plan p; housing = k }))
           (λ p. housing_for m n p.points o >>= λ k. done (record { plan = plan_of plan p; housing = k }))
           (λ p. ap (λ (z : Answer Placed). z >>= λ k. done (record { plan = plan_of plan p; housing = k })) (housing_is m n plan given cs center p.points ec))
           ∙ ea.answer (λ x xs. housing_for m n xs o >>= λ k. done (record { plan = x; housing = k }));

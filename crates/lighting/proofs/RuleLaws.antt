@@ -18,7 +18,7 @@ use Rattle.map.specs.Access.{HeadRead}
 use Rattle.place.specs.Readable.{ReadableWords}
 use Rattle.placing.specs.declared.MaybeNumber.{MaybeNumber}
 use Rattle.placing.specs.declared.MaybeNumber.TheVariants.{At, Nothing}
-use Rattle.placing.specs.Answers.{maybeNumber}
+use Rattle.placing.specs.Answers.{maybe_number}
 use Rattle.edit.specs.Light.{stops_at, existing_stop_line}
 use Rattle.lighting.specs.RuleLines.{head_line, line_of, LineOn, LineFound}
 
@@ -82,7 +82,7 @@ module _ (ws : List ℕ) (ok : ReadableWords ws) (i n : ℕ) (hi : i < count_of 
   rule_lanes = let k = ok.lanes i hi in (ok.sized, rule_there.1, omega arith)
 
   module _ (ls : List ℕ) (el : ls ≡ list_at (row_of ws 5 i) 7) (b : Bool) (eb : b ≡ member n (drop 0 ls)) where
-    pub line_listed : (h : RuleHead) (r : MaybeNumber) → b ≡ true → HeadRead (row_of ws 5 i) h → maybeNumber r ≡ head_line h → LineOn ws i n r
+    pub line_listed : (h : RuleHead) (r : MaybeNumber) → b ≡ true → HeadRead (row_of ws 5 i) h → maybe_number r ≡ head_line h → LineOn ws i n r
     unfolding line_of rule_in
     line_listed h r t e q = record { answer = λ c. rw (← el, ← eb, t) (q ∙ head_is (row_of ws 5 i) h e c) }
 

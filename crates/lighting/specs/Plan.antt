@@ -18,7 +18,7 @@ use Rattle.place.specs.Values.{maybe_line, Roomy, maybe_ends}
 use Rattle.placing.specs.declared.Checked.{Checked}
 use Rattle.placing.specs.declared.Checked.TheVariants.{Fine}
 use Rattle.placing.specs.declared.PlacedLine.{PlacedLine}
-use Rattle.placing.specs.Answers.{checked, placedAnswer}
+use Rattle.placing.specs.Answers.{checked, placed_answer}
 use Rattle.edit.specs.declared.SignalRequest.{SignalRequest}
 use Rattle.edit.specs.Light.{Plan, use_line, use_none, draw, Planned, anchor_for, housing_for, light_plan}
 use Rattle.edit.specs.Request.{new_traffic_signal}
@@ -98,7 +98,7 @@ pub record CenterAt (m : Map) (n : ℕ) (asked : Bool) (c : MaybeLine) : Type 0 
   pub room : Roomy c.line
 
 pub record StoredRead (m : Map) (s : ℕ) (a : PlacedLine) : Type 0 where
-  pub answer : (n : ℕ) → placedAnswer n a ≡ (present (line_of m s) 2 (5 ∷ s ∷ []) >>= λ l. done (record { points = l.geometry; warnings = []; ends = none }))
+  pub answer : (n : ℕ) → placed_answer n a ≡ (present (line_of m s) 2 (5 ∷ s ∷ []) >>= λ l. done (record { points = l.geometry; warnings = []; ends = none }))
   pub room : Roomy a.line
 
 -- where the first lane ends
@@ -106,13 +106,13 @@ abbrev pub end_of : Option Polyline → Float
 end_of o = elim o [ none ↦ f0 | some c ↦ polyline_length c ]
 
 pub record EndRead (m : Map) (lanes : List ℕ) (a : PlacedLine) : Type 0 where
-  pub answer : (n : ℕ) → placedAnswer n a
+  pub answer : (n : ℕ) → placed_answer n a
       ≡ (cross_section m (get_or lanes 0 0) (end_of (lane_centerline m (get_or lanes 0 0))) lanes >>= λ x. done (record { points = x.points; warnings = []; ends = none }))
   pub room : Roomy a.line
 
 -- whatever follows a plan and its anchor
 pub record AnchorRead (m : Map) (lanes : List ℕ) (plan : LinePlan) (points : List Float) (a : PlacedLine) : Type 0 where
-  pub answer : (f : Plan → Polyline → Answer Planned) → (placedAnswer (get_or lanes 0 0) a >>= λ p. f (plan_of plan p) p.points)
+  pub answer : (f : Plan → Polyline → Answer Planned) → (placed_answer (get_or lanes 0 0) a >>= λ p. f (plan_of plan p) p.points)
       ≡ (chosen_plan m lanes plan points >>= λ x. anchor_for m lanes x >>= λ xs. f x xs)
   pub ends : EndsTold a.checked plan a.ends
   pub room : Roomy a.line
@@ -121,7 +121,7 @@ pub record AnchorRead (m : Map) (lanes : List ℕ) (plan : LinePlan) (points : L
 
 pub record Anchored (center : MaybeLine) (plan : LinePlan) (a : PlacedLine) (given : Option (List Float)) (r : LightPlan) : Type 0 where
   pub answer : (n : ℕ) → light_answer n r
-      ≡ (placedAnswer n a >>= λ p. housing_on (maybe_line center) p.points given >>= λ h. done (record { plan = plan_of plan p; housing = h }))
+      ≡ (placed_answer n a >>= λ p. housing_on (maybe_line center) p.points given >>= λ h. done (record { plan = plan_of plan p; housing = h }))
   pub ends : EndsTold a.checked plan a.ends → EndsTold r.checked r.plan r.ends
   pub line : Roomy r.line
   pub housing : Roomy r.housing

@@ -1,6 +1,6 @@
 // The light that a new one joins, and the choice of a line.
 ghost use Rattle.std.specs.Prelude.{◌≡◌, ◌<◌, length};
-ghost use Rattle.placing.specs.Answers.{checked, maybeNumber};
+ghost use Rattle.placing.specs.Answers.{checked, maybe_number};
 ghost use Rattle.edit.specs.Light.{check_new};
 ghost use Rattle.store.specs.Layout.{SizedWords};
 ghost use Rattle.place.specs.Readable.{ReadableWords};
@@ -69,7 +69,7 @@ fn check_existing(words: &[u64], group: MaybeNumber, s: u64) -> Checked
 
 // A new line is turned down where the group has one.
 fn check_new(group: MaybeNumber) -> Checked
-    ensures { checked result ≡ check_new (maybeNumber group) }
+    ensures { checked result ≡ check_new (maybe_number group) }
 {
     let MaybeNumber::At(_) = group else {
         return Checked::Fine;

@@ -2,7 +2,7 @@
 ghost use Rattle.std.specs.Prelude.{◌≡◌, ◌<◌};
 ghost use Rattle.store.specs.Layout.{count_of};
 ghost use Rattle.place.specs.Readable.{ReadableWords};
-ghost use Rattle.placing.specs.Answers.{maybeNumber};
+ghost use Rattle.placing.specs.Answers.{maybe_number};
 ghost use Rattle.lighting.specs.RuleLines.{head_line, LineOn, LineFound};
 
 use map::{RuleHead, lookup};
@@ -11,7 +11,7 @@ use placing::lists::member;
 
 // The line of a light, a sign or a marking.
 pub fn stops_at(h: RuleHead) -> MaybeNumber
-    ensures { maybeNumber result ≡ head_line h }
+    ensures { maybe_number result ≡ head_line h }
 {
     if h.kind == 3 {
         return MaybeNumber::At(h.line);

@@ -24,21 +24,21 @@ use Rattle.placing.specs.declared.Checked.{Checked}
 use Rattle.placing.specs.declared.Checked.TheVariants.{Fine, Refused}
 use Rattle.placing.specs.declared.MaybeNumber.{MaybeNumber}
 use Rattle.placing.specs.declared.MaybeNumber.TheVariants.{At, Nothing}
-use Rattle.placing.specs.Answers.{maybeNumber, checked}
+use Rattle.placing.specs.Answers.{maybe_number, checked}
 use Rattle.linking.specs.Linking.{lesser, known_in, less_if, unknown_least, twice_checks, list_checks, ListsChecked}
 use Rattle.linking.proofs.SortLaws.{sorted_up, least_insert}
 
 -- ---- the least so far
 
 module _ (n : ℕ) (b : MaybeNumber) where
-  pub lesser_none : b ≡ Nothing → some n ≡ lesser n (maybeNumber b)
+  pub lesser_none : b ≡ Nothing → some n ≡ lesser n (maybe_number b)
   lesser_none e = rw e
 
   module _ (m : ℕ) (e : b ≡ At m) where
-    pub lesser_new : n < m → some n ≡ lesser n (maybeNumber b)
+    pub lesser_new : n < m → some n ≡ lesser n (maybe_number b)
     lesser_new h = rw (e, lt-ltb n m h)
 
-    pub lesser_old : m ≤ n → some m ≡ lesser n (maybeNumber b)
+    pub lesser_old : m ≤ n → some m ≡ lesser n (maybe_number b)
     lesser_old h = rw (e, le-ltb n m h)
 
 module _ (ws : List ℕ) (k n : ℕ) (o : Option ℕ) (h : Bool) (e : h ≡ ltb (index_in ws k n) (count_of ws k)) where
@@ -54,7 +54,7 @@ module _ (ws : List ℕ) (k n : ℕ) (o : Option ℕ) (h : Bool) (e : h ≡ ltb 
 
 pub record Least (ws : List ℕ) (k : ℕ) (ns : List ℕ) (best : MaybeNumber) (i : ℕ) : Type 0 where
   pub within : i ≤ length ns
-  pub goes : maybeNumber best ≡ unknown_least ws k (drop i ns)
+  pub goes : maybe_number best ≡ unknown_least ws k (drop i ns)
 
 module _ (ws : List ℕ) (k : ℕ) (ns : List ℕ) where
   pub least_start : Least ws k ns Nothing (length ns)
@@ -62,10 +62,10 @@ module _ (ws : List ℕ) (k : ℕ) (ns : List ℕ) where
   least_start = record { within = omega arith; goes = let h : length ns ≤ length ns = omega arith in rw (drop_of_length-le ns h) }
 
   module _ (best : MaybeNumber) (i : ℕ) (inv : Least ws k ns best i) where
-    pub least_end : i ≤ 0 → maybeNumber best ≡ unknown_least ws k ns
+    pub least_end : i ≤ 0 → maybe_number best ≡ unknown_least ws k ns
     least_end h = let e : i ≡ 0 = omega arith in rw e at inv.goes
 
-    pub least_next : 0 < i → (r : MaybeNumber) → maybeNumber r ≡ less_if ws k (get_or ns (i - 1) 0) (maybeNumber best) → Least ws k ns r (i - 1)
+    pub least_next : 0 < i → (r : MaybeNumber) → maybe_number r ≡ less_if ws k (get_or ns (i - 1) 0) (maybe_number best) → Least ws k ns r (i - 1)
     unfolding unknown_least sorted less_if
     least_next h r e =
         let w = inv.within in
@@ -123,17 +123,17 @@ module _ (ws lanes crosswalks lines : List ℕ) (t : Checked) (et : checked t �
   unfolding list_checks
   lists_twice r q = record { answer = λ cs. rw (← et, q) }
 
-  module _ (q : t ≡ Fine) (l : MaybeNumber) (el : maybeNumber l ≡ unknown_least ws 0 lanes) where
+  module _ (q : t ≡ Fine) (l : MaybeNumber) (el : maybe_number l ≡ unknown_least ws 0 lanes) where
     pub lists_lane : (n : ℕ) → l ≡ At n → ListsChecked ws lanes crosswalks lines (Refused (Unknown 1 n))
     unfolding list_checks
     lists_lane n p = record { answer = λ cs. rw (← et, q, ← unknown_lanes ws cs lanes, ← el, p) }
 
-    module _ (p : l ≡ Nothing) (c : MaybeNumber) (ec : maybeNumber c ≡ unknown_least ws 4 crosswalks) where
+    module _ (p : l ≡ Nothing) (c : MaybeNumber) (ec : maybe_number c ≡ unknown_least ws 4 crosswalks) where
       pub lists_crosswalk : (n : ℕ) → c ≡ At n → ListsChecked ws lanes crosswalks lines (Refused (Unknown 7 n))
       unfolding list_checks
       lists_crosswalk n o = record { answer = λ cs. rw (← et, q, ← unknown_lanes ws cs lanes, ← el, p, ← unknown_crosswalks ws cs crosswalks, ← ec, o) }
 
-      module _ (o : c ≡ Nothing) (s : MaybeNumber) (es : maybeNumber s ≡ unknown_least ws 2 lines) where
+      module _ (o : c ≡ Nothing) (s : MaybeNumber) (es : maybe_number s ≡ unknown_least ws 2 lines) where
         pub lists_line : (n : ℕ) → s ≡ At n → ListsChecked ws lanes crosswalks lines (Refused (Unknown 5 n))
         unfolding list_checks
         lists_line n u = record { answer = λ cs. rw (← et, q, ← unknown_lanes ws cs lanes, ← el, p, ← unknown_crosswalks ws cs crosswalks, ← ec, o, ← unknown_lines ws cs lines, ← es, u) }

@@ -1,7 +1,7 @@
 // The lists of links: none listed twice, and all known.
 ghost use Rattle.std.specs.Prelude.{◌≡◌, ◌<◌};
 ghost use Rattle.store.specs.Layout.{SizedWords};
-ghost use Rattle.placing.specs.Answers.{maybeNumber, checked};
+ghost use Rattle.placing.specs.Answers.{maybe_number, checked};
 ghost use Rattle.linking.specs.Linking.{lesser, less_if, unknown_least, twice_checks, ListsChecked};
 
 use map::lookup;
@@ -11,7 +11,7 @@ use refusal::Refusal;
 
 // The lesser of a number and the least so far.
 fn lesser(n: u64, best: MaybeNumber) -> MaybeNumber
-    ensures { maybeNumber result ≡ lesser n (maybeNumber best) }
+    ensures { maybe_number result ≡ lesser n (maybe_number best) }
 {
     match best {
         MaybeNumber::Nothing => MaybeNumber::At(n),
@@ -28,7 +28,7 @@ fn lesser(n: u64, best: MaybeNumber) -> MaybeNumber
 // The least so far, with one number more: it counts where kind k has no such record.
 fn less_if(words: &[u64], k: usize, n: u64, best: MaybeNumber) -> MaybeNumber
     requires { SizedWords words.now × (k < 6) }
-    ensures { maybeNumber result ≡ less_if words.now k n (maybeNumber best) }
+    ensures { maybe_number result ≡ less_if words.now k n (maybe_number best) }
 {
     if lookup::holds(words, k, n) {
         return best;
@@ -39,7 +39,7 @@ fn less_if(words: &[u64], k: usize, n: u64, best: MaybeNumber) -> MaybeNumber
 // The least number of the list that kind k has no record of.
 pub fn least_unknown(words: &[u64], k: usize, list: &[u64]) -> MaybeNumber
     requires { SizedWords words.now × (k < 6) }
-    ensures { maybeNumber result ≡ unknown_least words.now k list.now }
+    ensures { maybe_number result ≡ unknown_least words.now k list.now }
 {
     let mut best = MaybeNumber::Nothing;
     let mut i = list.len();

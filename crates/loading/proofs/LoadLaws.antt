@@ -96,7 +96,7 @@ any_words k n h g = omega (arith, (narrow k h).0)
 pub any_coords : (k n : ℕ) → k < 6 → coord_width_of k ≤ n → 192 ≤ n
 any_coords k n h g = omega (arith, (narrow k h).1)
 
-pub ruleset reading-record = (as_lane, as_signal, as_crosswalk, as_rule, as_line_string, lane_words, lane_coords, signal_words, signal_coords, crosswalk_words, crosswalk_coords, rule_words, rule_coords, any_words, any_coords)
+pub ruleset reading_record = (as_lane, as_signal, as_crosswalk, as_rule, as_line_string, lane_words, lane_coords, signal_words, signal_coords, crosswalk_words, crosswalk_coords, rule_words, rule_coords, any_words, any_coords)
 
 -- ---- a part of a list that is lent and comes back
 
@@ -154,7 +154,7 @@ module _ (s : Bytes) (p : Place) (k i : ℕ) (ws : List ℕ) (cs : List Float) (
         is = rw (← ea, ← ew, ← ec, ← ev, part_here ws row a w fw gw, part_here cs xs c v fc gc) x.is;
       })
 
-pub ruleset loading-row = (row_got, row_fits, coord_row_fits)
+pub ruleset loading_row = (row_got, row_fits, coord_row_fits)
 
 -- ---- a table
 
@@ -244,4 +244,4 @@ module _ (s : Bytes) (k : ℕ) (ws₀ : List ℕ) (cs₀ : List Float) (q₀ : P
         items = listed_more (record_form k) s _ n i q _ w.items q' (λ j. record_in k (row_of ws' k j) (coords_of cs' k j)) h same x.is;
       }
 
-pub ruleset loading-table = (filling_starts, filling_row, filling_more, filling_ends)
+pub ruleset loading_table = (filling_starts, filling_row, filling_more, filling_ends)

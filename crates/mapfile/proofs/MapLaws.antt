@@ -57,7 +57,7 @@ marks_got s p next a b c x y z =
           (seen_then s (total crosswalk_points) (total rule_points) (table (λ r. r.num) max_crosswalks crosswalk next) (table (λ r. r.num) max_rules rule next) a.place b.place c.place b.points c.points y.is z.is);
     }
 
-pub ruleset checking-marks = (marks_got)
+pub ruleset checking_marks = (marks_got)
 
 pub lines_got : (s : Bytes) (p : Place) (next : ℕ) (b c d : Checked) → TableChecked s p 1 next b → TableChecked s b.place 2 next c → MarksChecked s c.place next d
     → LinesChecked s p next (record { points = b.points + (c.points + d.points); place = d.place })
@@ -70,7 +70,7 @@ lines_got s p next b c d y z w =
           (seen_then s (total line_string_points) mark_points (table (λ r. r.num) max_stop_lines line_string next) (marks next) b.place c.place d.place c.points d.points z.is w.is);
     }
 
-pub ruleset checking-lines = (lines_got)
+pub ruleset checking_lines = (lines_got)
 
 pub tables_got : (s : Bytes) (p : Place) (next : ℕ) (a d : Checked) → TableChecked s p 0 next a → LinesChecked s a.place next d → TablesChecked s p next (record { points = a.points + d.points; place = d.place })
 unfolding tables lines marks limit_of record_points
@@ -80,7 +80,7 @@ tables_got s p next a d x w =
       is = seen_then s (total lane_points) line_points (table (λ r. r.num) max_lanes lane next) (lines next) p a.place d.place a.points d.points x.is w.is;
     }
 
-pub ruleset checking-tables = (tables_got)
+pub ruleset checking_tables = (tables_got)
 
 -- ---- the file
 
@@ -162,4 +162,4 @@ module _ (s : Bytes) where
     unfolding is_map_file file_of map_file only via tagged
     map_whole e f l = whole_read (numbered (number.read s)) e a.points l (rw f at seen_all)
 
-pub ruleset checking-map = (map_none, map_left, map_whole)
+pub ruleset checking_map = (map_none, map_left, map_whole)

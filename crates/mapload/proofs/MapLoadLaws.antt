@@ -101,9 +101,9 @@ module _ (s : Bytes) (p q r t : Place) (w w1 w2 w3 : List ℕ) (c c1 c2 c3 : Lis
             (place_then (list 64 line_string) mark_lists s q r t _ _ (rw (records_stay line_string_in 2 w2 w3 c2 c3 (omega arith) y.few z.before) y.is) z.is);
       }
 
-pub ruleset loading-marks = (marks_loaded)
+pub ruleset loading_marks = (marks_loaded)
 
-pub ruleset loading-lines = (lines_loaded)
+pub ruleset loading_lines = (lines_loaded)
 
 pub map_loaded : (s : Bytes) (q r t : Place) (w w1 w2 w3 : List ℕ) (c c2 c3 : List Float) → Word 0 largest s (P.At 0) w 0 q w1 → TableLoaded s q 0 w1 c r w2 c2 → LinesLoaded s r w2 c2 t w3 c3 → MapLoaded s w c t w3 c3
 unfolding limit_of next_of
@@ -116,4 +116,4 @@ map_loaded s q r t w w1 w2 w3 c c2 c3 x y z =
           (place_then (list 64 lane) line_lists s q r t _ _ (rw (records_stay lane_in 0 w2 w3 c2 c3 (omega arith) y.few z.before) y.is) z.is);
     }
 
-pub ruleset loading-map = (map_loaded)
+pub ruleset loading_map = (map_loaded)

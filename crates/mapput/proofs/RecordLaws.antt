@@ -36,7 +36,7 @@ module _ (ws : List ℕ) (at : ℕ) (o o1 o2 : Bytes) (p p1 p2 : Place) where
   unfolding boundary_ref via ◌⊗◌ flag_at
   side_put x y = put_then _ _ o o1 o2 p p1 p2 x y
 
-pub ruleset putting-side = (side_put)
+pub ruleset putting_side = (side_put)
 
 module _ (ws : List ℕ) (cs : List Float) (o o1 o2 : Bytes) (p p1 p2 : Place) where
   pub line_string_put : PutAt (number.write (get_or ws 0 0)) o p p1 o1 → PutAt (polyline.write (line_at cs 0 (get_or ws 1 0))) o1 p1 p2 o2 → PutAt (line_string.write (line_string_in ws cs)) o p p2 o2
@@ -82,21 +82,21 @@ module _ (ws : List ℕ) (o o1 o2 : Bytes) (p p1 p2 : Place) where
     unfolding ◌⊗◌ list_at entries_in
     right_of_way_put x y z = put_then _ _ o o1 o3 p p1 p3 x (put_then _ _ o1 o2 o3 p1 p2 p3 y z)
 
-pub ruleset putting-line-string = (line_string_put)
+pub ruleset putting_line_string = (line_string_put)
 
-pub ruleset putting-light = (light_put)
+pub ruleset putting_light = (light_put)
 
-pub ruleset putting-crossing = (crossing_put)
+pub ruleset putting_crossing = (crossing_put)
 
-pub ruleset putting-sign = (sign_put)
+pub ruleset putting_sign = (sign_put)
 
-pub ruleset putting-right-of-way = (right_of_way_put)
+pub ruleset putting_right_of_way = (right_of_way_put)
 
-pub ruleset putting-crosswalk = (crosswalk_put)
+pub ruleset putting_crosswalk = (crosswalk_put)
 
-pub ruleset putting-lane = (lane_put)
+pub ruleset putting_lane = (lane_put)
 
-pub ruleset putting-signal = (signal_put)
+pub ruleset putting_signal = (signal_put)
 
 -- ---- a rule's fields, by its kind
 
@@ -137,7 +137,7 @@ as_none (suc (suc (suc (suc (suc zero))))) ws cs o o1 p p1 a b c d e f x = absur
 as_none (suc (suc (suc (suc (suc (suc zero)))))) ws cs o o1 p p1 a b c d e f x = absurd (f refl)
 as_none (suc (suc (suc (suc (suc (suc (suc k))))))) ws cs o o1 p p1 a b c d e f x = x
 
-pub ruleset putting-fields = (as_light, as_sign, as_marking, as_right_of_way, as_crossing, as_other, as_none)
+pub ruleset putting_fields = (as_light, as_sign, as_marking, as_right_of_way, as_crossing, as_other, as_none)
 
 pub no_kind : (k : ℕ) → k ≡ 0 → 6 ≡ kind_in k
 no_kind k e = rw e
@@ -161,7 +161,7 @@ own_kind (suc (suc (suc (suc (suc zero))))) n h = refl
 own_kind (suc (suc (suc (suc (suc (suc zero)))))) n h = refl
 own_kind (suc (suc (suc (suc (suc (suc (suc k))))))) n h = absurd (let z : ⊥ = omega arith in z)
 
-pub ruleset telling-kind = (no_kind, high_kind, own_kind)
+pub ruleset telling_kind = (no_kind, high_kind, own_kind)
 
 -- the kind and the fields are the body
 body_form : (k : ℕ) (ws : List ℕ) (cs : List Float) → body.write (body_of k ws cs) ≡ number.write (kind_in k) ++ fields_form (body_of k ws cs)
@@ -183,4 +183,4 @@ module _ (ws : List ℕ) (cs : List Float) (k : ℕ) (o o1 o2 o3 o4 o5 : Bytes) 
       let b : PutAt (body.write (body_of (get_or ws 1 0) ws cs)) o1 p1 p3 o3 = rw (body_form (get_or ws 1 0) ws cs) (put_then _ _ o1 o2 o3 p1 p2 p3 (rw e at y) z) in
       put_then _ _ o o1 o5 p p1 p5 x (put_then _ _ o1 o3 o5 p1 p3 p5 b (put_then _ _ o3 o4 o5 p3 p4 p5 w v))
 
-pub ruleset putting-rule = (rule_put)
+pub ruleset putting_rule = (rule_put)

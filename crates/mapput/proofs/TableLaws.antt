@@ -45,7 +45,7 @@ as_line_string (suc (suc (suc (suc zero)))) ws cs o o1 p p1 h a b c d x = absurd
 as_line_string (suc (suc (suc (suc (suc zero))))) ws cs o o1 p p1 h a b c d x = absurd (d refl)
 as_line_string (suc (suc (suc (suc (suc (suc k)))))) ws cs o o1 p p1 h a b c d x = absurd (let z : ⊥ = omega arith in z)
 
-pub ruleset putting-record = (as_lane, as_signal, as_crosswalk, as_rule, as_line_string, lane_words, signal_words, crosswalk_words, rule_words, any_words)
+pub ruleset putting_record = (as_lane, as_signal, as_crosswalk, as_rule, as_line_string, lane_words, signal_words, crosswalk_words, rule_words, any_words)
 
 -- ---- a row
 
@@ -66,7 +66,7 @@ module _ (k i a w c v : ℕ) (ws : List ℕ) (cs : List Float) (hk : k < 6) (hi 
       let f : c + v - c ≡ v = omega arith in
       rw (← ea, ← ew, ← ec, ← ev) (rw (e, f) at x)
 
-pub ruleset putting-row = (row_long, row_put, row_fits, coord_row_fits)
+pub ruleset putting_row = (row_long, row_put, row_fits, coord_row_fits)
 
 -- ---- a table
 
@@ -99,7 +99,7 @@ coords_long ws cs s = s.coords
 pub count_inside : (ws : List ℕ) (cs : List Float) (k : ℕ) → Sized ws cs → k < 6 → 1 + k < length ws
 count_inside ws cs k s h = omega (arith, s.words.room)
 
-pub ruleset putting-table = (rowed_start, rowed_more, rowed_end, row_inside, words_long, coords_long, count_inside)
+pub ruleset putting_table = (rowed_start, rowed_more, rowed_end, row_inside, words_long, coords_long, count_inside)
 
 -- ---- the map
 
@@ -119,6 +119,6 @@ module _ (ws : List ℕ) (cs : List Float) (o o1 o2 o3 : Bytes) (p p1 p2 p3 : Pl
 pub next_inside : (ws : List ℕ) (cs : List Float) → Sized ws cs → 0 < length ws
 next_inside ws cs s = omega (arith, s.words.room)
 
-pub ruleset putting-marks = (marks_put)
+pub ruleset putting_marks = (marks_put)
 
-pub ruleset putting-map = (map_put, next_inside)
+pub ruleset putting_map = (map_put, next_inside)

@@ -10,8 +10,8 @@ use Rattle.refusal.specs.Answer.{Answer, refused, done, ◌>>=◌, ◌>>◌, ref
 pub never : {A B : Type 0} {n : ℕ} {ds : List ℕ} {b : A} → ◌≡◌ {A = Answer A} (refused n ds) (done b) → B
 never e = let z : ◌≡◌ {A = ℕ} 0 1 = cc in absurd (omega arith)
 
-pub done-is : {A : Type 0} {a b : A} → ◌≡◌ {A = Answer A} (done a) (done b) → a ≡ b
-done-is e = cc
+pub done_is : {A : Type 0} {a b : A} → ◌≡◌ {A = Answer A} (done a) (done b) → a ≡ b
+done_is e = cc
 
 module _ {A B : Type 0} where
   pub record Went (x : Answer A) (f : A → Answer B) (b : B) : Type 0 where

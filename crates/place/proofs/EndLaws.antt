@@ -29,7 +29,7 @@ use Rattle.place.specs.declared.EndName.{EndName}
 use Rattle.place.specs.Place.{End, Ends, Section, Placed, outer, widened, with_side, with_lane, with_lanes, section, cross_section, lane_centerline, check_polyline, place_at, place_as, place_stop_line}
 use Rattle.place.specs.Steps.{no_ends}
 use Rattle.place.specs.EndNames.{side_at, side_named, candidate_at, candidate_on, candidate, candidates, IsNamed, IsFirst, Named, Drawn, EndsBy}
-use Rattle.place.proofs.Answers.{never, done-is, went, next, past, there}
+use Rattle.place.proofs.Answers.{never, done_is, went, next, past, there}
 use Rattle.place.proofs.Doubles.{lt_le, le_lt, lt_none, not_lt}
 
 -- ---- the first of the outermost
@@ -127,7 +127,7 @@ module _ (m : Map) (p : Point3) (normal : Point2) where
   side_taken x s es r h e =
       let w = went (present (oriented m s) 6 (4 ∷ [])) _ r e in
       let o = there (oriented m s) 6 (4 ∷ []) w.value w.first in
-      rw (h, o) (sym (done-is w.rest) ∙ widened_taken x (nearest_point w.value (xy p)) es)
+      rw (h, o) (sym (done_is w.rest) ∙ widened_taken x (nearest_point w.value (xy p)) es)
 
   named_is : (n : ℕ) (l : Lane) (k : LaneSide) → lane_of m n ≡ some l → side_named m (record { lane = n; side = k }) ≡ oriented m (side_at l k)
   unfolding side_named
@@ -144,7 +144,7 @@ module _ (m : Map) (p : Point3) (normal : Point2) where
 
   lanes_taken : (ns : List ℕ) (es r : Ends) → with_lanes m p normal ns es ≡ done r → r ≡ taking (candidates m p normal ns) es
   unfolding with_lanes candidates
-  lanes_taken [] es r e = sym (done-is e)
+  lanes_taken [] es r e = sym (done_is e)
   lanes_taken (n ∷ ns) es r e =
       let w = went (with_lane m p normal n es) _ r e in
       let one = lanes_taken ns w.value r w.rest in
@@ -221,7 +221,7 @@ across (some l) (some r) x e = go (lt milli (l.lateral ⊖ r.lateral)) refl e
     it = record { points = l.point ∷ r.point ∷ []; names = record { left = l.name; right = r.name } }
 
     go : (t : Bool) → lt milli (l.lateral ⊖ r.lateral) ≡ t → cond t (done it) (refused 6 (5 ∷ [])) ≡ done x → Across (some l) (some r) x
-    go true h e = record { left = l; right = r; left_is = refl; right_is = refl; is = sym (done-is e); wide = h }
+    go true h e = record { left = l; right = r; left_is = refl; right_is = refl; is = sym (done_is e); wide = h }
     go false h e = never e
 
 -- *named* and *first*
@@ -265,7 +265,7 @@ module _ (m : Map) (lanes : List ℕ) (p : Placed) where
   unfolding place_at
   drawn_at len station e =
       let w = went (cross_section m (get_or lanes 0 0) (clamp station f0 len) lanes) _ p (past (not (is_finite station)) 4 (3 ∷ []) _ p e).rest in
-      let q = done-is w.rest in
+      let q = done_is w.rest in
       record {
         station = clamp station f0 len;
         names = w.value.names;
@@ -278,7 +278,7 @@ module _ (m : Map) (lanes : List ℕ) (p : Placed) where
   unfolding place_stop_line place_as
   given_ends cs e =
       let w = went (present (lane_centerline m (get_or lanes 0 0)) 6 (1 ∷ [])) _ p e in
-      ap (λ (x : Placed). x.ends) (sym (done-is (next (check_polyline cs) _ p w.rest).rest))
+      ap (λ (x : Placed). x.ends) (sym (done_is (next (check_polyline cs) _ p w.rest).rest))
 
   end_drawn : (cs : List Float) (offset : Float) → place_stop_line m lanes (AtLaneEnd offset) cs ≡ done p → Drawn m lanes p
   unfolding place_stop_line place_as

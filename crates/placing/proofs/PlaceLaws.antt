@@ -35,7 +35,7 @@ use Rattle.place.proofs.SectionLaws.{cross_section_is}
 use Rattle.placing.specs.declared.Checked.{Checked}
 use Rattle.placing.specs.declared.Checked.TheVariants as c
 use Rattle.placing.specs.declared.PlacedLine.{PlacedLine}
-use Rattle.placing.specs.Answers.{checked, placedAnswer, RefusedWith, placeOn, placeGiven}
+use Rattle.placing.specs.Answers.{checked, placed_answer, RefusedWith, place_on, place_given}
 
 -- ---- two points in an array
 
@@ -52,32 +52,32 @@ given_room cs l h e w = record { few = count_few l (polyline_of cs) e (omega (ar
 -- ---- at a station
 
 module _ (m : Map) (center : Polyline) (lanes : List ℕ) (n : ℕ) (len station : Float) (b : Bool) (e : b ≡ is_finite station) where
-  pub station_bad : (a : PlacedLine) → not b ≡ true → RefusedWith (BadMeasure 3) a → placedAnswer n a ≡ placeOn m center lanes n len station
-  unfolding placeOn
+  pub station_bad : (a : PlacedLine) → not b ≡ true → RefusedWith (BadMeasure 3) a → placed_answer n a ≡ place_on m center lanes n len station
+  unfolding place_on
   station_bad a t h = h.answer n ∙ rw (← e, not-true b t)
 
   module _ (t : not b ≡ false) (x : Float) (ex : x ≡ clamp station f0 len) (s : MaybeSection) (es : section_answer s ≡ section_on m center x lanes) where
-    at_section : placeOn m center lanes n len station ≡ (section_answer s >>= λ y. done (record { points = y.points; warnings = clamp_warning n station x; ends = some y.names }))
-    unfolding placeOn
+    at_section : place_on m center lanes n len station ≡ (section_answer s >>= λ y. done (record { points = y.points; warnings = clamp_warning n station x; ends = some y.names }))
+    unfolding place_on
     at_section = rw (← e, not-false b t, ← ex, ← es)
 
-    pub section_refused : (r : Refusal) (a : PlacedLine) → s ≡ Refused r → RefusedWith r a → placedAnswer n a ≡ placeOn m center lanes n len station
+    pub section_refused : (r : Refusal) (a : PlacedLine) → s ≡ Refused r → RefusedWith r a → placed_answer n a ≡ place_on m center lanes n len station
     section_refused r a q h = h.answer n ∙ sym (at_section ∙ rw q)
 
     pub section_placed : (y : CrossSection) (z : SectionNames) (l : Line) (d : Bool) → s ≡ At y z → points_of l ≡ y.left ∷ y.right ∷ [] → d ≡ lt epsilon (absolute (x ⊖ station))
-        → placedAnswer n (record { checked = c.Fine; line = l; clamped = d; ends = ends.At z }) ≡ placeOn m center lanes n len station
+        → placed_answer n (record { checked = c.Fine; line = l; clamped = d; ends = ends.At z }) ≡ place_on m center lanes n len station
     unfolding clamp_warning
     section_placed y z l d q h ed = sym (at_section ∙ rw (q, ← h, ← ed))
 
 -- ---- given points
 
 module _ (cs : List Float) (n : ℕ) (k : Checked) (e : checked k ≡ check_polyline cs) where
-  pub given_refused : (r : Refusal) (a : PlacedLine) → k ≡ c.Refused r → RefusedWith r a → placedAnswer n a ≡ placeGiven cs
-  unfolding placeGiven
+  pub given_refused : (r : Refusal) (a : PlacedLine) → k ≡ c.Refused r → RefusedWith r a → placed_answer n a ≡ place_given cs
+  unfolding place_given
   given_refused r a q h = h.answer n ∙ rw (← e, q)
 
-  pub given_placed : (l : Line) → k ≡ c.Fine → points_of l ≡ polyline_of cs → placedAnswer n (record { checked = c.Fine; line = l; clamped = false; ends = ends.Nothing }) ≡ placeGiven cs
-  unfolding placeGiven
+  pub given_placed : (l : Line) → k ≡ c.Fine → points_of l ≡ polyline_of cs → placed_answer n (record { checked = c.Fine; line = l; clamped = false; ends = ends.Nothing }) ≡ place_given cs
+  unfolding place_given
   given_placed l q h = rw (← e, q, h)
 
 -- ---- a placement
@@ -86,36 +86,36 @@ module _ (m : Map) (center : Polyline) (lanes : List ℕ) (n : ℕ) (e : lane_ce
   on_center : (s : Float) → cross_section m n s lanes ≡ section_on m center s lanes
   on_center s = cross_section_is m n s lanes ∙ rw e
 
-  at_center : (len station : Float) → place_at m lanes n len station ≡ placeOn m center lanes n len station
-  unfolding place_at placeOn
+  at_center : (len station : Float) → place_at m lanes n len station ≡ place_on m center lanes n len station
+  unfolding place_at place_on
   at_center len station = rw (on_center (clamp station f0 len))
 
   module _ (how : Placement) (given : List Float) (len : Float) (el : len ≡ polyline_length center) where
-    pub as_given : (a : Answer Placed) → how ≡ Given → a ≡ placeGiven given → a ≡ place_as how given m lanes n (polyline_length center)
-    unfolding place_as placeGiven
+    pub as_given : (a : Answer Placed) → how ≡ Given → a ≡ place_given given → a ≡ place_as how given m lanes n (polyline_length center)
+    unfolding place_as place_given
     as_given a q h = rw q h
 
-    pub as_station : (s : Float) (a : Answer Placed) → how ≡ AtStation s → a ≡ placeOn m center lanes n len s → a ≡ place_as how given m lanes n (polyline_length center)
+    pub as_station : (s : Float) (a : Answer Placed) → how ≡ AtStation s → a ≡ place_on m center lanes n len s → a ≡ place_as how given m lanes n (polyline_length center)
     unfolding place_as
     as_station s a q h = rw (q, ← el) (h ∙ sym (at_center len s))
 
     module _ (o : Float) (q : how ≡ AtLaneEnd o) (b : Bool) (eb : b ≡ is_finite o) where
-      pub as_infinite : (a : PlacedLine) → not b ≡ true → RefusedWith (BadMeasure 2) a → placedAnswer n a ≡ place_as how given m lanes n (polyline_length center)
+      pub as_infinite : (a : PlacedLine) → not b ≡ true → RefusedWith (BadMeasure 2) a → placed_answer n a ≡ place_as how given m lanes n (polyline_length center)
       unfolding place_as
       as_infinite a t h = h.answer n ∙ rw (q, ← eb, not-true b t)
 
-      pub as_negative : (a : PlacedLine) → not b ≡ false → lt o f0 ≡ true → RefusedWith (BadMeasure 2) a → placedAnswer n a ≡ place_as how given m lanes n (polyline_length center)
+      pub as_negative : (a : PlacedLine) → not b ≡ false → lt o f0 ≡ true → RefusedWith (BadMeasure 2) a → placed_answer n a ≡ place_as how given m lanes n (polyline_length center)
       unfolding place_as
       as_negative a t u h = h.answer n ∙ rw (q, ← eb, not-false b t, u)
 
-      pub as_end : (a : Answer Placed) → not b ≡ false → lt o f0 ≡ false → a ≡ placeOn m center lanes n len (len ⊖ o) → a ≡ place_as how given m lanes n (polyline_length center)
+      pub as_end : (a : Answer Placed) → not b ≡ false → lt o f0 ≡ false → a ≡ place_on m center lanes n len (len ⊖ o) → a ≡ place_as how given m lanes n (polyline_length center)
       unfolding place_as
       as_end a t u h = rw (q, ← eb, not-false b t, u, ← el) (h ∙ sym (at_center len (len ⊖ o)))
 
 -- ---- with the centreline looked up
 
 module _ (m : Map) (lanes : List ℕ) (how : Placement) (given : List Float) (l : MaybeLine) (read : LineRead (lane_centerline m (get_or lanes 0 0)) l) where
-  pub no_center : (a : PlacedLine) → not l.there ≡ true → RefusedWith (NoPlace 1) a → placedAnswer (get_or lanes 0 0) a ≡ place_stop_line m lanes how given
+  pub no_center : (a : PlacedLine) → not l.there ≡ true → RefusedWith (NoPlace 1) a → placed_answer (get_or lanes 0 0) a ≡ place_stop_line m lanes how given
   unfolding place_stop_line
   no_center a t h =
       let f = not-true l.there t in

@@ -24,37 +24,37 @@ abbrev pub checked : Checked → Answer (Unit {0})
 checked c.Fine = done tt
 checked (c.Refused r) = refused_as r
 
-abbrev pub maybeNumber : MaybeNumber → Option ℕ
-maybeNumber (n.At x) = some x
-maybeNumber n.Nothing = none
+abbrev pub maybe_number : MaybeNumber → Option ℕ
+maybe_number (n.At x) = some x
+maybe_number n.Nothing = none
 
 -- ---- lists of lanes, whatever the coordinates
 
 pub record UnknownRead (ws lanes : List ℕ) (r : MaybeNumber) : Type 0 where
-  pub answer : (cs : List Float) → maybeNumber r ≡ unknown_in (λ l. l.num) (map_of ws cs).lanes lanes
+  pub answer : (cs : List Float) → maybe_number r ≡ unknown_in (λ l. l.num) (map_of ws cs).lanes lanes
 
 pub record LanesChecked (ws lanes : List ℕ) (r : Checked) : Type 0 where
   pub answer : (cs : List Float) → checked r ≡ check_lane_list (map_of ws cs) lanes
 
 -- ---- a line that was placed along the lane `reference`
 
-abbrev pub placedAnswer : ℕ → PlacedLine → Answer Placed
-placedAnswer reference a =
+abbrev pub placed_answer : ℕ → PlacedLine → Answer Placed
+placed_answer reference a =
     checked a.checked >> done (record { points = points_of a.line; warnings = cond a.clamped (warning 1 (some (entity 1 reference)) ∷ []) []; ends = maybe_ends a.ends })
 
 pub record RefusedWith (r : Refusal) (a : PlacedLine) : Type 0 where
-  pub answer : (reference : ℕ) → placedAnswer reference a ≡ refused_as r
+  pub answer : (reference : ℕ) → placed_answer reference a ≡ refused_as r
   pub room : Roomy a.line
 
 -- ---- parts of the definitions that one function answers
 
 -- at a station of a centreline that is there
-unfoldable pub placeOn : Map → Polyline → List ℕ → ℕ → Float → Float → Answer Placed
-placeOn m center lanes reference len station = do
+unfoldable pub place_on : Map → Polyline → List ℕ → ℕ → Float → Float → Answer Placed
+place_on m center lanes reference len station = do
   refuse_when (not (is_finite station)) 4 (3 ∷ [])
   let clamped = clamp station f0 len
   x ← section_on m center clamped lanes
   done (record { points = x.points; warnings = clamp_warning reference station clamped; ends = some x.names })
 
-unfoldable pub placeGiven : List Float → Answer Placed
-placeGiven cs = check_polyline cs >> done (record { points = polyline_of cs; warnings = []; ends = none })
+unfoldable pub place_given : List Float → Answer Placed
+place_given cs = check_polyline cs >> done (record { points = polyline_of cs; warnings = []; ends = none })

@@ -9,7 +9,7 @@ ghost use Rattle.map.specs.Tables.{map_of};
 ghost use Rattle.place.specs.Place.{lane_centerline, place_as, place_stop_line};
 ghost use Rattle.place.specs.Readable.{Readable};
 ghost use Rattle.place.specs.Values.{Roomy, LineRead};
-ghost use Rattle.placing.specs.Answers.{RefusedWith, placedAnswer, placeOn, placeGiven};
+ghost use Rattle.placing.specs.Answers.{RefusedWith, placed_answer, place_on, place_given};
 
 use crate::checks::check_polyline;
 use crate::{Checked, PlacedLine};
@@ -64,7 +64,7 @@ fn place_at(
     station: f64,
 ) -> PlacedLine
     requires { Readable words.now coords.now }
-    ensures { (placedAnswer (get_or lanes.now 0 0) result ≡ placeOn (map_of words.now coords.now) (polyline_of center.now) lanes.now (get_or lanes.now 0 0) len station) × Roomy result.line }
+    ensures { (placed_answer (get_or lanes.now 0 0) result ≡ place_on (map_of words.now coords.now) (polyline_of center.now) lanes.now (get_or lanes.now 0 0) len station) × Roomy result.line }
 {
     if !is_finite(station) {
         return refused_line(Refusal::BadMeasure(3));
@@ -82,7 +82,7 @@ fn place_at(
 }
 
 fn given_line(given: &[f64], reference: u64) -> PlacedLine
-    ensures { (placedAnswer reference result ≡ placeGiven given.now) × Roomy result.line }
+    ensures { (placed_answer reference result ≡ place_given given.now) × Roomy result.line }
 {
     match check_polyline(given) {
         Checked::Refused(r) => refused_line(r),
@@ -105,7 +105,7 @@ pub fn place_as(
     given: &[f64],
 ) -> PlacedLine
     requires { Readable words.now coords.now × (0 < length lanes.now) × (lane_centerline (map_of words.now coords.now) (get_or lanes.now 0 0) ≡ some (polyline_of center.now)) }
-    ensures { (placedAnswer (get_or lanes.now 0 0) result ≡ place_as how given.now (map_of words.now coords.now) lanes.now (get_or lanes.now 0 0) (polyline_length (polyline_of center.now))) × Roomy result.line }
+    ensures { (placed_answer (get_or lanes.now 0 0) result ≡ place_as how given.now (map_of words.now coords.now) lanes.now (get_or lanes.now 0 0) (polyline_length (polyline_of center.now))) × Roomy result.line }
 {
     let len = polyline::length::length(center);
     match how {
@@ -133,7 +133,7 @@ pub fn place_with(
     given: &[f64],
 ) -> PlacedLine
     requires { Readable words.now coords.now × (0 < length lanes.now) × LineRead (lane_centerline (map_of words.now coords.now) (get_or lanes.now 0 0)) center }
-    ensures { (placedAnswer (get_or lanes.now 0 0) result ≡ place_stop_line (map_of words.now coords.now) lanes.now how given.now) × Roomy result.line }
+    ensures { (placed_answer (get_or lanes.now 0 0) result ≡ place_stop_line (map_of words.now coords.now) lanes.now how given.now) × Roomy result.line }
 {
     if !center.there {
         return refused_line(Refusal::NoPlace(1));
@@ -153,7 +153,7 @@ pub fn place_stop_line(
     given: &[f64],
 ) -> PlacedLine
     requires { Readable words.now coords.now × (0 < length lanes.now) }
-    ensures { (placedAnswer (get_or lanes.now 0 0) result ≡ place_stop_line (map_of words.now coords.now) lanes.now how given.now) × Roomy result.line }
+    ensures { (placed_answer (get_or lanes.now 0 0) result ≡ place_stop_line (map_of words.now coords.now) lanes.now how given.now) × Roomy result.line }
 {
     let center = lane_centerline(words, coords, lanes[0]);
     place_with(words, coords, center, lanes, how, given)

@@ -67,9 +67,9 @@ module _ (ws : List ℕ) (at k : ℕ) where
 pub word_put : (ws : List ℕ) (at k w : ℕ) (o o1 : Bytes) (p p1 : Place) → w ≡ get_or ws (at + k) 0 → PutAt (number.write w) o p p1 o1 → PutAt (number.write (get_or ws (at + k) 0)) o p p1 o1
 word_put ws at k w o o1 p p1 e x = rw e at x
 
-pub ruleset putting-word = (word_put)
+pub ruleset putting_word = (word_put)
 
-pub ruleset reading-word = (word_past, word_after)
+pub ruleset reading_word = (word_past, word_after)
 
 module _ (at w end : ℕ) where
   pub later_past : end ≤ at → end ≡ min (at + w) end
@@ -81,7 +81,7 @@ module _ (at w end : ℕ) where
   pub later_in : at < end → w < end - at → at + w ≡ min (at + w) end
   later_in h l = sym (min-eq_left {n = at + w} {m = end} (omega arith))
 
-pub ruleset going-later = (later_past, later_after, later_in)
+pub ruleset going_later = (later_past, later_after, later_in)
 
 -- ---- flags
 
@@ -94,7 +94,7 @@ module _ (w : ℕ) (old : Bytes) (p r : Place) (new : Bytes) where
   unfolding flag via below only
   flag_yes e x = rw (ne_eqb w 0 e) x
 
-pub ruleset putting-flag = (flag_no, flag_yes)
+pub ruleset putting_flag = (flag_no, flag_yes)
 
 -- ---- doubles
 
@@ -129,9 +129,9 @@ nan_made old p i e h l =
     let a7 : i + 7 ≡ suc (suc (suc (suc (suc (suc (suc i)))))) = omega arith in
     double_made nan old p i e h l _ (rw (nan_bytes, a1, a2, a3, a4, a5, a6, a7))
 
-pub ruleset putting-double = (double_lost, double_far, double_short, double_made)
+pub ruleset putting_double = (double_lost, double_far, double_short, double_made)
 
-pub ruleset putting-nan = (double_lost, double_far, double_short, nan_made)
+pub ruleset putting_nan = (double_lost, double_far, double_short, nan_made)
 
 -- ---- coordinates
 
@@ -148,7 +148,7 @@ module _ (cs : List Float) (at k : ℕ) (old : Bytes) (p r : Place) (new : Bytes
   pub cell_nan : ne (get_or cs (at + k) nan) (get_or cs (at + k) nan) ≡ true → PutAt (double.write nan) old p r new → PutAt (double.write (get_or cs (at + k) nan)) old p r new
   cell_nan h x = nowhere x (differs_from_itself (get_or cs (at + k) nan) (subst T (sym h) tt))
 
-pub ruleset putting-cell = (cell_past, cell_after, cell_nan, no_nan)
+pub ruleset putting_cell = (cell_past, cell_after, cell_nan, no_nan)
 
 module _ (cs : List Float) (at : ℕ) (o o1 o2 o3 : Bytes) (p p1 p2 p3 : Place) where
   pub point_put : PutAt (double.write (get_or cs (at + 0) nan)) o p p1 o1 → PutAt (double.write (get_or cs (at + 1) nan)) o1 p1 p2 o2 → PutAt (double.write (get_or cs (at + 2) nan)) o2 p2 p3 o3
@@ -156,7 +156,7 @@ module _ (cs : List Float) (at : ℕ) (o o1 o2 o3 : Bytes) (p p1 p2 p3 : Place) 
   unfolding point coordinate point_from via ◌⊗◌ only
   point_put x y z = let e : at + 0 ≡ at = omega arith in put_then _ _ o o1 o3 p p1 p3 (rw e at x) (put_then _ _ o1 o2 o3 p1 p2 p3 y z)
 
-pub ruleset putting-point = (point_put)
+pub ruleset putting_point = (point_put)
 
 -- ---- polylines
 
@@ -188,7 +188,7 @@ points_more cs c n old out new p q r at i at' w h x e =
       along = along_more cs nan c 3 at i at' w.along e;
     }
 
-pub ruleset putting-line = (points_start, points_more, points_end)
+pub ruleset putting_line = (points_start, points_more, points_end)
 
 -- ---- lists of numbers
 
@@ -207,7 +207,7 @@ module _ (ws : List ℕ) (from n : ℕ) where
   unfolding numbers entries_in
   numbered_end old mid new p q r i x y h = list_put number 16 _ n old mid new p q r i x y.items h
 
-pub ruleset putting-numbers = (numbered_start, numbered_more, numbered_end)
+pub ruleset putting_numbers = (numbered_start, numbered_more, numbered_end)
 
 -- ---- options
 
@@ -244,7 +244,7 @@ module _ (there : ℕ) (cs : List Float) (c : ℕ) (o o1 : Bytes) (p p1 : Place)
   unfolding height only
   a_height o2 p2 e x y = let z : c + 0 ≡ c = omega arith in some_put height (get_or cs c nan) there o o1 p p1 o2 p2 e x (rw z at y)
 
-pub ruleset putting-option = (no_number, a_number, no_line, a_line, no_height, a_height)
+pub ruleset putting_option = (no_number, a_number, no_line, a_line, no_height, a_height)
 
 -- ---- bulbs
 
@@ -254,7 +254,7 @@ module _ (ws : List ℕ) (at : ℕ) (cs : List Float) (c : ℕ) (o o1 o2 o3 : By
   unfolding bulb via ◌⊗◌ below only
   bulb_put x y z = let e : at + 0 ≡ at = omega arith in put_then _ _ o o1 o3 p p1 p3 x (put_then _ _ o1 o2 o3 p1 p2 p3 (rw e at y) z)
 
-pub ruleset putting-bulb = (bulb_put)
+pub ruleset putting_bulb = (bulb_put)
 
 -- the first i of n bulbs stand there, and at and c are where the next one's words and coordinates begin
 pub record Bulbs (ws : List ℕ) (cs : List Float) (n : ℕ) (old : Bytes) (p : Place) (out : Bytes) (q : Place) (at c i : ℕ) : Type 0 where
@@ -286,4 +286,4 @@ module _ (ws : List ℕ) (cs : List Float) where
   pub bulbs_end : (n : ℕ) (old mid new : Bytes) (p q r : Place) (at c i : ℕ) → PutAt (number.write n) old p q mid → Bulbs ws cs n mid q new r at c i → n ≤ i → PutAt ((list 4 bulb).write (list_to (bulb_at ws cs) n)) old p r new
   bulbs_end n old mid new p q r at c i x y h = list_put bulb 4 _ n old mid new p q r i x y.items h
 
-pub ruleset putting-bulbs = (bulbs_start, bulbs_more, bulbs_end)
+pub ruleset putting_bulbs = (bulbs_start, bulbs_more, bulbs_end)

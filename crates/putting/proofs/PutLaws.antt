@@ -138,4 +138,4 @@ module _ (form old : Bytes) (p : Place) where
       pub put_wrote : (new : Bytes) (r : ℕ) → Wrote form old i r new → PutAt form old p (P.At (i + size)) new
       put_wrote new r w = put_made new w.made
 
-pub ruleset putting-form = (put_lost, put_far, put_short, put_made, put_wrote)
+pub ruleset putting_form = (put_lost, put_far, put_short, put_made, put_wrote)

@@ -26,7 +26,7 @@ use Rattle.changes.specs.Running.{State, opening, fold_ok, fold_fits}
 use Rattle.changes.proofs.EntryLaws.{entries_rise, entries_few}
 use Rattle.changes.proofs.FoldLaws.{normal_counts, fold_counts}
 use Rattle.place.specs.Place.{Placed, check_lane_list, place_stop_line}
-use Rattle.place.proofs.Answers.{done-is, went}
+use Rattle.place.proofs.Answers.{done_is, went}
 use Rattle.place.proofs.SameLanes.{SameLanes, oriented_same, placed_same}
 use Rattle.edit.specs.declared.StopRule.{StopRule}
 use Rattle.edit.specs.declared.StopRule.TheVariants.{StopSign, Marking, NoRule}
@@ -192,7 +192,7 @@ unfolding run_one
 line_stored a s o e =
     let w = ended (line a) s o e in
     let v = went (placed_for a s.map) (λ p. done (placed_draft a.rule a.lanes s.map p)) w.draft (sym (edit_by a s.map) ∙ w.drawn) in
-    record { placed = v.value; placed_is = v.first; line = stands w.map w.draft v.value (ap (λ (t : State). t.map) w.end.state) w.end.number (done-is v.rest) }
+    record { placed = v.value; placed_is = v.first; line = stands w.map w.draft v.value (ap (λ (t : State). t.map) w.end.state) w.end.number (done_is v.rest) }
   where
     stands : is_map s.map ≡ true → (d : Draft) (p : Placed) → o.state.map ≡ d.map → o.id ≡ d.id → placed_draft a.rule a.lanes s.map p ≡ d
         → line_of o.state.map o.id ≡ some (record { num = o.id; geometry = p.points })

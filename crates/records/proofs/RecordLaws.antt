@@ -15,7 +15,7 @@ use Rattle.fields.proofs.Places.{place_then, place_via}
 use Rattle.records.specs.Records.{SideRead, RowRead}
 use Rattle.records.proofs.Steps.{kept_one, kept_more, number_at, below_at, side_got, side_at_lem, line_at_lem, height_at}
 
-pub ruleset reading-side = (side_got)
+pub ruleset reading_side = (side_got)
 
 module _ (s : Bytes) (p p1 p2 p3 p4 p5 : Place) (w w1 w2 w3 w4 w5 : List ℕ) (cs cs5 : List Float) where
   pub lane_got : Word 0 largest s p w 0 p1 w1 → Word 0 7 s p1 w1 1 p2 w2 → SideRead s p2 w2 2 p3 w3 → SideRead s p3 w3 4 p4 w4 → OptionLine s p4 w4 6 cs 0 p5 w5 cs5
@@ -36,7 +36,7 @@ module _ (s : Bytes) (p p1 p2 p3 p4 p5 : Place) (w w1 w2 w3 w4 w5 : List ℕ) (c
             (place_then boundary_ref (option polyline) s p3 p4 p5 _ _ (side_at_lem s p3 p4 w3 w4 w5 4 6 r k4 (omega arith)) o.is))));
       }
 
-pub ruleset reading-lane = (lane_got)
+pub ruleset reading_lane = (lane_got)
 
 module _ (s : Bytes) (p p1 p2 : Place) (w w1 w2 : List ℕ) (cs cs2 : List Float) where
   pub line_string_got : Word 0 largest s p w 0 p1 w1 → Line s p1 w1 1 cs 0 p2 w2 cs2 → RowRead line_string line_string_in s p w cs p2 w2 cs2
@@ -48,7 +48,7 @@ module _ (s : Bytes) (p p1 p2 : Place) (w w1 w2 : List ℕ) (cs cs2 : List Float
         is = place_via (number ⊗ polyline) _ _ _ _ s p p2 _ (place_then number polyline s p p1 p2 _ _ (number_at s p p1 w w1 w2 0 1 a (kept_one w1 w2 1 2 l.words) (omega arith)) l.is);
       }
 
-pub ruleset reading-line-string = (line_string_got)
+pub ruleset reading_line_string = (line_string_got)
 
 module _ (s : Bytes) (p p1 p2 p3 p4 p5 : Place) (w w1 w2 w3 w4 w5 : List ℕ) (cs cs3 cs4 cs5 : List Float) where
   pub signal_got : Word 0 largest s p w 0 p1 w1 → Word 0 1 s p1 w1 1 p2 w2 → Line s p2 w2 2 cs 0 p3 w3 cs3 → OptionHeight s p3 w3 3 cs3 192 p4 w4 cs4 → Bulbs s p4 w4 cs4 p5 w5 cs5
@@ -71,7 +71,7 @@ module _ (s : Bytes) (p p1 p2 p3 p4 p5 : Place) (w w1 w2 w3 w4 w5 : List ℕ) (c
             (place_then (option height) (list 4 bulb) s p3 p4 p5 _ _ (height_at s p3 p4 w3 w4 w5 3 4 cs3 cs4 cs5 192 193 h k4 (omega arith) c4 (omega arith)) o.is))));
       }
 
-pub ruleset reading-signal = (signal_got)
+pub ruleset reading_signal = (signal_got)
 
 module _ (s : Bytes) (p p1 p2 p3 p4 : Place) (w w1 w2 w3 w4 : List ℕ) (cs cs2 cs3 cs4 : List Float) where
   pub crosswalk_got : Word 0 largest s p w 0 p1 w1 → Line s p1 w1 1 cs 0 p2 w2 cs2 → Line s p2 w2 2 cs2 192 p3 w3 cs3 → OptionLine s p3 w3 3 cs3 384 p4 w4 cs4
@@ -92,4 +92,4 @@ module _ (s : Bytes) (p p1 p2 p3 p4 : Place) (w w1 w2 w3 w4 : List ℕ) (cs cs2 
             (place_then polyline (option polyline) s p2 p3 p4 _ _ (line_at_lem s p2 p3 w2 w3 w4 2 3 cs2 cs3 cs4 192 384 r k3 (omega arith) c3 (omega arith)) o.is)));
       }
 
-pub ruleset reading-crosswalk = (crosswalk_got)
+pub ruleset reading_crosswalk = (crosswalk_got)

@@ -72,7 +72,7 @@ module _ (s : Bytes) (p q q2 r : Place) (w w1 w2 w3 : List ℕ) where
             (place_then (option polyline) (option number) s q q2 r _ _ (rw (z.words.kept 0 5 (inr (omega arith)), z.words.kept 0 6 (inr (omega arith))) y.is) z.is);
       }
 
-pub ruleset reading-parts = (light_got, crossing_got, right_of_way_got, sign_got)
+pub ruleset reading_parts = (light_got, crossing_got, right_of_way_got, sign_got)
 
 -- ---- the body
 
@@ -145,7 +145,7 @@ module _ (s : Bytes) (p q : Place) (w w1 : List ℕ) (x : Word 0 largest s p w 1
         is = via_fault (tagged number fields) _ _ _ _ s p (tagged_fault number fields s p q (get_or w1 1 0) (x.is ∙ range_any s p) (no_fields s q (get_or w1 1 0) a b c d e f));
       }
 
-pub ruleset reading-body = (body_light, body_sign, body_marking, body_right_of_way, body_crossing, body_other, body_none)
+pub ruleset reading_body = (body_light, body_sign, body_marking, body_right_of_way, body_crossing, body_other, body_none)
 
 -- ---- the rule
 
@@ -181,4 +181,4 @@ module _ (s : Bytes) (p p1 p2 p3 p4 : Place) (w w1 w2 w3 w4 : List ℕ) (cs cs2 
             (place_then numbers numbers s p2 p3 p4 _ _ (rw (list_before w3 w4 24 41 k.words 7 l.few (omega arith)) l.is) k.is)));
       }
 
-pub ruleset reading-rule = (rule_got)
+pub ruleset reading_rule = (rule_got)

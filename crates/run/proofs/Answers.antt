@@ -47,10 +47,10 @@ lanes_known m ok ns u e =
     let b = next (refuse_found (unknown_in (λ l. l.num) m.lanes ns) 1) _ u a.rest in
     known m ok (λ (l : Lane). l.num) m.lanes (up₁ m ok) ns (unfound _ 1 b.first)
 
-pub below-fits : (h : ℕ) → h < 2 ^ 64 → (ns : List ℕ) → every (λ n. ltb n h) ns ≡ true → every number.fits ns ≡ true
+pub below_fits : (h : ℕ) → h < 2 ^ 64 → (ns : List ℕ) → every (λ n. ltb n h) ns ≡ true → every number.fits ns ≡ true
 unfolding every number
-below-fits h k [] e = refl
-below-fits h k (n ∷ ns) e = go (ltb-true n h (search parts)) (below-fits h k ns (search parts))
+below_fits h k [] e = refl
+below_fits h k (n ∷ ns) e = go (ltb-true n h (search parts)) (below_fits h k ns (search parts))
   where
     go : n < h → every number.fits ns ≡ true → (number.fits n && every number.fits ns) ≡ true
     go u v = and_i _ _ (lt-ltb n (2 ^ 64) (omega arith)) v
@@ -58,8 +58,8 @@ below-fits h k (n ∷ ns) e = go (ltb-true n h (search parts)) (below-fits h k n
 -- ---- parts of a shape: nothing new, one new record, no rule changed
 
 module _ {A : Type 0} where
-  pub no-fresh : (num : A → ℕ) (l h : ℕ) → Fresh num l h none
-  no-fresh num l h x e = let z : ◌≡◌ {A = ℕ} 0 1 = cc in absurd (omega arith)
+  pub no_fresh : (num : A → ℕ) (l h : ℕ) → Fresh num l h none
+  no_fresh num l h x e = let z : ◌≡◌ {A = ℕ} 0 1 = cc in absurd (omega arith)
 
   pub is_fresh : (num : A → ℕ) (l h : ℕ) (y : A) → l ≤ num y → num y < h → Fresh num l h (some y)
   is_fresh num l h y p q x e = let r : y ≡ x = cc in subst (λ (z : A). (l ≤ num z) × (num z < h)) r (p, q)
@@ -73,14 +73,14 @@ module _ {A : Type 0} where
   pub kept_same : (num : A → ℕ) (x y : A) → some x ≡ some y → num y ≡ num x
   kept_same num x y e = let q : x ≡ y = cc in ap num (sym q)
 
-  pub kept-ok : (p : A → Bool) (x y : A) → p x ≡ true → some x ≡ some y → p y ≡ true
-  kept-ok p x y t e = let q : x ≡ y = cc in subst (λ (z : A). p z ≡ true) q t
+  pub kept_ok : (p : A → Bool) (x y : A) → p x ≡ true → some x ≡ some y → p y ≡ true
+  kept_ok p x y t e = let q : x ≡ y = cc in subst (λ (z : A). p z ≡ true) q t
 
 pub none_gone : {A : Type 0} (b : Bool) (o : Option A) → false ≡ (b && gone_at some o)
 none_gone b o = rw (kept_not_gone o) (sym (and_no b))
 
-pub none-touched : {A : Type 0} (w : A → Bytes) (b : Bool) (o : Option A) → false ≡ (b && touched_at w some o)
-none-touched w b o = rw (kept_untouched w o) (sym (and_no b))
+pub none_touched : {A : Type 0} (w : A → Bytes) (b : Bool) (o : Option A) → false ≡ (b && touched_at w some o)
+none_touched w b o = rw (kept_untouched w o) (sym (and_no b))
 
 -- ---- the new numbers rise
 
@@ -88,10 +88,10 @@ pub rise_one : (l h a : ℕ) → l ≤ a → a < h → rising (λ n. n) l h (a �
 unfolding rising
 rise_one l h a p q = and_i _ _ (and_i _ _ (le-leb l a p) (lt-ltb a h q)) refl
 
-pub rise-two : (l h a b : ℕ) → l ≤ a → a < b → b < h → rising (λ n. n) l h (a ∷ b ∷ []) ≡ true
+pub rise_two : (l h a b : ℕ) → l ≤ a → a < b → b < h → rising (λ n. n) l h (a ∷ b ∷ []) ≡ true
 unfolding rising
-rise-two l h a b p q r = and_i _ _ (and_i _ _ (le-leb l a p) (lt-ltb a h (omega arith))) (rise_one (suc a) h b (omega arith) r)
+rise_two l h a b p q r = and_i _ _ (and_i _ _ (le-leb l a p) (lt-ltb a h (omega arith))) (rise_one (suc a) h b (omega arith) r)
 
-pub rise-three : (l h a b c : ℕ) → l ≤ a → a < b → b < c → c < h → rising (λ n. n) l h (a ∷ b ∷ c ∷ []) ≡ true
+pub rise_three : (l h a b c : ℕ) → l ≤ a → a < b → b < c → c < h → rising (λ n. n) l h (a ∷ b ∷ c ∷ []) ≡ true
 unfolding rising
-rise-three l h a b c p q r s = and_i _ _ (and_i _ _ (le-leb l a p) (lt-ltb a h (omega arith))) (rise-two (suc a) h b c (omega arith) r s)
+rise_three l h a b c p q r s = and_i _ _ (and_i _ _ (le-leb l a p) (lt-ltb a h (omega arith))) (rise_two (suc a) h b c (omega arith) r s)

@@ -17,7 +17,7 @@ use Rattle.map.specs.Record.{RuleBody, light, sign, marking, right_of_way, cross
 use Rattle.map.specs.Rows.{rule_with, fresh}
 use Rattle.map.proofs.ByKind.{up₈}
 use Rattle.place.specs.Place.{Placed}
-use Rattle.place.proofs.Answers.{never, done-is, went, next, past, there}
+use Rattle.place.proofs.Answers.{never, done_is, went, next, past, there}
 use Rattle.edit.specs.declared.StopLineChoice.{StopLineChoice}
 use Rattle.edit.specs.declared.StopLineChoice.TheVariants.{Existing, New, NoLine, Automatic}
 use Rattle.edit.specs.Edit.{Draft}
@@ -33,10 +33,10 @@ use Rattle.run.proofs.LineEnds.{light_lines}
 
 plan_joins : (m : Map) (lanes : List ℕ) (g : ℕ) (c : StopLineChoice) (cs : List Float) (u : Unit {0}) (pl : Plan) → check_choice m (some g) c ≡ done u → plan_for m lanes (some g) c cs ≡ done pl → pl ≡ use_line g
 unfolding check_choice plan_for auto_plan
-plan_joins m lanes g Automatic cs u pl h e = sym (done-is e)
+plan_joins m lanes g Automatic cs u pl h e = sym (done_is e)
 plan_joins m lanes g (New how) cs u pl h e = never h
-plan_joins m lanes g NoLine cs u pl h e = sym (done-is e)
-plan_joins m lanes g (Existing s) cs u pl h e = sym (done-is e) ∙ ap use_line (sym (unfold differs in go (eqb g s) refl (next (present (line_of m s) 2 (5 ∷ s ∷ [])) _ u h).rest))
+plan_joins m lanes g NoLine cs u pl h e = sym (done_is e)
+plan_joins m lanes g (Existing s) cs u pl h e = sym (done_is e) ∙ ap use_line (sym (unfold differs in go (eqb g s) refl (next (present (line_of m s) 2 (5 ∷ s ∷ [])) _ u h).rest))
   where
     go : (b : Bool) → eqb g s ≡ b → refuse_when (not b) 7 (3 ∷ []) ≡ done u → g ≡ s
     go true q k = eqb-true g s q
@@ -50,7 +50,7 @@ num r = r.num
 -- it is a light with the line g, which stays one
 light_stays : (w : RuleBody) (g n : ℕ) → light_line w ≡ done (some g) → (is_stop_at g (extended w n (some g)) ≡ false) × (stops_at (extended w n (some g)) ≡ some g)
 unfolding light_line is_stop_at extended stops_at
-light_stays (light signals line) g n e = (refl, rw (done-is e))
+light_stays (light signals line) g n e = (refl, rw (done_is e))
 light_stays (sign type shape line) g n e = never e
 light_stays (marking line) g n e = never e
 light_stays (right_of_way priority yielding stop_lines) g n e = never e
@@ -94,7 +94,7 @@ module _ (a : NewTrafficSignal) (m : Map) (ok : is_map m ≡ true) (g : ℕ) (h 
 
   own_stays : (k : Option ℕ) → a.group ≡ k → group_line m k ≡ done (some g) → groups_line k after.rules ≡ some g
   unfolding group_line rule_of groups_line group_rule
-  own_stays none q e = done-is e
+  own_stays none q e = done_is e
   own_stays (some k) q e =
       let p₁ = went (present (find num k m.rules) 2 (8 ∷ k ∷ [])) _ (some g) e in
       let r = p₁.value in
@@ -114,8 +114,8 @@ light_joins a m d ok e g own =
     let pl = plan_joins m a.lanes g a.choice a.points p.fine w.value.plan (rw o at p.fine_is) (rw o at p.plan_is) in
     let s : lights_line a m ≡ some g = sym (light_line_lem a m w.value w.first) ∙ (rw pl (unfold line_drawn in refl)) in
     record {
-      lines = ap (λ (x : Draft). x.map.stop_lines) (sym (done-is w.rest)) ∙ light_lines a m w.value ∙ (rw pl (unfold line_drawn in refl));
-      own = subst (λ (x : Draft). groups_line a.group x.map.rules ≡ some g) (done-is w.rest) (stays w.value.plan pl w.value.housing (rw o at p.own_is));
+      lines = ap (λ (x : Draft). x.map.stop_lines) (sym (done_is w.rest)) ∙ light_lines a m w.value ∙ (rw pl (unfold line_drawn in refl));
+      own = subst (λ (x : Draft). groups_line a.group x.map.rules ≡ some g) (done_is w.rest) (stays w.value.plan pl w.value.housing (rw o at p.own_is));
       cleared = subst (λ (l : Option ℕ). no_stop l a.lanes d.map ≡ true) s (light_clears a m d e);
     }
   where

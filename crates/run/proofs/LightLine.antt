@@ -22,7 +22,7 @@ use Rattle.edit.specs.Light.{stops_at, existing_stop_line, light_line, group_lin
 use Rattle.place.specs.Place.{check_lane_list, place_stop_line}
 use Rattle.place.specs.declared.Placement.{Placement}
 use Rattle.place.specs.declared.Placement.TheVariants.{AtLaneEnd}
-use Rattle.place.proofs.Answers.{never, done-is, went, past, there}
+use Rattle.place.proofs.Answers.{never, done_is, went, past, there}
 use Rattle.edit.specs.declared.StopLineChoice.{StopLineChoice}
 use Rattle.edit.specs.declared.StopLineChoice.TheVariants.{Existing, New, NoLine, Automatic}
 use Rattle.run.specs.Law.{own_line, or_next, line_on_lane, line_of_rule, groups_line, first_lanes_line, found_or, chosen_line, lights_line, meets, halt_line, is_line, no_stop}
@@ -64,7 +64,7 @@ rule_line n (x ∷ rs) r e = go (eqb x.num n) e (rule_line n rs r)
 
 pub group_line_lem : (m : Map) (k g : Option ℕ) → group_line m k ≡ done g → groups_line k m.rules ≡ g
 unfolding group_line groups_line rule_of
-group_line_lem m none g e = done-is e
+group_line_lem m none g e = done_is e
 group_line_lem m (some k) g e =
     let p₁ = went (present (find (λ x. x.num) k m.rules) 2 (8 ∷ k ∷ [])) _ g e in
     let r = p₁.value in
@@ -72,7 +72,7 @@ group_line_lem m (some k) g e =
     rule_line k m.rules r (there (find (λ x. x.num) k m.rules) 2 (8 ∷ k ∷ []) r p₁.first) ∙ is_one r.body p₂.rest
   where
     is_one : (w : RuleBody) → light_line w ≡ done g → stops_at w ≡ g
-    is_one (light signals line) e = unfold light_line stops_at in done-is e
+    is_one (light signals line) e = unfold light_line stops_at in done_is e
     is_one (sign type shape line) e = unfold light_line in never e
     is_one (marking line) e = unfold light_line in never e
     is_one (right_of_way priority yielding stop_lines) e = unfold light_line in never e
@@ -86,20 +86,20 @@ first_line m (n ∷ ns) u e = lane_line n m.rules
 
 drawn_line : (m : Map) (lanes : List ℕ) (how : Placement) (cs : List Float) (pl : Plan) → draw_plan m lanes how cs ≡ done pl → (line_drawn m pl).line ≡ some (fresh m)
 unfolding draw_plan line_drawn
-drawn_line m lanes how cs pl e = let q = went (place_stop_line m lanes how cs) _ pl e in rw (← done-is q.rest)
+drawn_line m lanes how cs pl e = let q = went (place_stop_line m lanes how cs) _ pl e in rw (← done_is q.rest)
 
 plan_line : (m : Map) (lanes : List ℕ) (g : Option ℕ) (c : StopLineChoice) (cs : List Float) (pl : Plan) → plan_for m lanes g c cs ≡ done pl
     → (line_drawn m pl).line ≡ chosen_line c (max 1 m.next) g (existing_stop_line m (get_or lanes 0 0))
 unfolding plan_for chosen_line
-plan_line m lanes g (Existing s) cs pl e = unfold line_drawn in rw (← done-is e)
-plan_line m lanes none NoLine cs pl e = unfold line_drawn in rw (← done-is e)
-plan_line m lanes (some s) NoLine cs pl e = unfold line_drawn in rw (← done-is e)
+plan_line m lanes g (Existing s) cs pl e = unfold line_drawn in rw (← done_is e)
+plan_line m lanes none NoLine cs pl e = unfold line_drawn in rw (← done_is e)
+plan_line m lanes (some s) NoLine cs pl e = unfold line_drawn in rw (← done_is e)
 plan_line m lanes g (New how) cs pl e = drawn_line m lanes how cs pl e
 plan_line m lanes g Automatic cs pl e = rw (next_else g (existing_stop_line m (get_or lanes 0 0))) (go (or_else g (existing_stop_line m (get_or lanes 0 0))) e)
   where
     go : (o : Option ℕ) → auto_plan m lanes o ≡ done pl → (line_drawn m pl).line ≡ some (found_or (max 1 m.next) o)
     go none e = unfold auto_plan in drawn_line m lanes (AtLaneEnd f0) [] pl e
-    go (some s) e = unfold auto_plan line_drawn in rw (← done-is e)
+    go (some s) e = unfold auto_plan line_drawn in rw (← done_is e)
 
 pub light_line_lem : (a : NewTrafficSignal) (m : Map) (p : Planned) → light_plan a m ≡ done p → (line_drawn m p.plan).line ≡ lights_line a m
 unfolding lights_line
@@ -164,7 +164,7 @@ pub light_clears : (a : NewTrafficSignal) (m : Map) (d : Draft) → light_edit a
 unfolding light_edit
 light_clears a m d e =
     let q = went (light_plan a m) _ d e in
-    subst (λ (x : Draft). no_stop (lights_line a m) a.lanes x.map ≡ true) (done-is q.rest)
+    subst (λ (x : Draft). no_stop (lights_line a m) a.lanes x.map ≡ true) (done_is q.rest)
     (subst (λ (l : Option ℕ). no_stop l a.lanes (light_draft a m q.value).map ≡ true) (light_line_lem a m q.value q.first) (done_clears a m q.value))
   where
     done_clears : (a : NewTrafficSignal) (m : Map) (p : Planned) → no_stop (line_drawn m p.plan).line a.lanes (light_draft a m p).map ≡ true

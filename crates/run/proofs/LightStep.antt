@@ -47,12 +47,12 @@ use Rattle.place.specs.declared.SectionNames.{SectionNames}
 use Rattle.place.specs.Place.{Placed, check_lane_list, place_stop_line}
 use Rattle.place.specs.declared.Placement.{Placement}
 use Rattle.place.specs.declared.Placement.TheVariants.{AtLaneEnd}
-use Rattle.place.proofs.Answers.{never, done-is, went, next, past, there}
+use Rattle.place.proofs.Answers.{never, done_is, went, next, past, there}
 use Rattle.edit.specs.declared.SignalBulb.{SignalBulb}
 use Rattle.edit.specs.declared.StopLineChoice.{StopLineChoice}
 use Rattle.edit.specs.declared.StopLineChoice.TheVariants.{Existing, New, NoLine, Automatic}
 use Rattle.run.specs.Law.{differ}
-use Rattle.run.proofs.Answers.{lanes_known, below-fits, no-fresh, is_fresh, no_ok, is_ok, none-touched, rise_one, rise-two, rise-three}
+use Rattle.run.proofs.Answers.{lanes_known, below_fits, no_fresh, is_fresh, no_ok, is_ok, none_touched, rise_one, rise_two, rise_three}
 use Rattle.run.proofs.Lifts.{lift_by, lift-all, changed_append, changed_twice, is_eased, is_gone, listed_eased, listed_gone, lift_touched, lift_gone, lift_same, lift_ok, keep_every}
 use Rattle.run.proofs.PlaceWarned.{first_fits, place_warned}
 use Rattle.run.proofs.Rules.{every_true, body_ok, body_within_lem, rule_made, put, put_all, put_same, put_touched, rule_split}
@@ -245,7 +245,7 @@ begun_is m none l ws = record {
   modified = refl;
   deleted = refl;
   later = omega arith;
-  fresh_line = no-fresh (λ (x : LineString). x.num) m.next m.next;
+  fresh_line = no_fresh (λ (x : LineString). x.num) m.next m.next;
 }
 begun_is m (some p) l ws = record {
   kept = record { lanes = refl; boundaries = refl; crosswalks = refl };
@@ -487,7 +487,7 @@ module _ (m : Map) (ok : is_map m ≡ true) (a : NewTrafficSignal) (known : ever
   -- the group's rule is listed as modified, by its number
   three_modified : (g : Option Rule) → Group m g → (c : EntityRef) → listed (three g).modified c ≡ (eqb c.kind 8 && touched_at rule.write (pre g) (find (λ r. r.num) c.num m.rules))
   unfolding grouped signal_drawn listed
-  three_modified none i c = ap (λ (ms : List EntityRef). listed ms c) b.modified ∙ (none-touched rule.write (eqb c.kind 8) (find (λ r. r.num) c.num m.rules))
+  three_modified none i c = ap (λ (ms : List EntityRef). listed ms c) b.modified ∙ (none_touched rule.write (eqb c.kind 8) (find (λ r. r.num) c.num m.rules))
   three_modified (some r) (group q i) c = ap (λ (ms : List EntityRef). listed (ms ++ (entity 8 r.num ∷ [])) c) b.modified ∙ one_listed
     where
       go : (u v : Bool) → ((u && v) || false) ≡ (u && (v && true))
@@ -576,14 +576,14 @@ module _ (m : Map) (ok : is_map m ≡ true) (a : NewTrafficSignal) (known : ever
     new_ok h =
         let u = b.later in
         rule_made new_rule (light (n ∷ []) l) a.lanes [] (and_i _ _ (and_i (number.fits n) _ (small_fits n (suc n) (omega arith) (omega arith)) refl) (lf (omega arith)))
-        (below-fits m.next (omega arith) a.lanes known) refl
+        (below_fits m.next (omega arith) a.lanes known) refl
 
     more_ok : (r : Rule) → suc n < 2 ^ 64 → rule_ok r ≡ true → IsLight r.body → rule_ok (more_rule r) ≡ true
     more_ok r h q i =
         let u = b.later in
         rule_made r (extended r.body n l) (joined_lanes r.lanes a.lanes) r.controlled
         (extended_ok r.body n l i (body_ok r q) (small_fits n (suc n) (omega arith) h) (lf (omega arith)))
-        (joined_ok r.lanes a.lanes (lanes_ok r q) (below-fits m.next (omega arith) a.lanes known)) (controlled_ok r q)
+        (joined_ok r.lanes a.lanes (lanes_ok r q) (below_fits m.next (omega arith) a.lanes known)) (controlled_ok r q)
 
     change_ok : (g : Option Rule) → Group m g → next' g < 2 ^ 64 → (x y : Rule) → rule_ok x ≡ true → after l a.lanes (pre g) x ≡ some y → rule_ok y ≡ true
     change_ok none i h x y q e = lift_ok l a.lanes x y q e
@@ -613,7 +613,7 @@ module _ (m : Map) (ok : is_map m ≡ true) (a : NewTrafficSignal) (known : ever
 
     rule_fresh : (g : Option Rule) → Fresh (λ (x : Rule). x.num) m.next (four g).map.next (rule' g)
     rule_fresh none = let u = b.later in let v = four_next none in is_fresh (λ (x : Rule). x.num) m.next (four none).map.next new_rule (omega arith) (omega arith)
-    rule_fresh (some r) = no-fresh (λ (x : Rule). x.num) m.next (four (some r)).map.next
+    rule_fresh (some r) = no_fresh (λ (x : Rule). x.num) m.next (four (some r)).map.next
 
     sig_num : sig.num ≡ n
     unfolding new_signal
@@ -631,14 +631,14 @@ module _ (m : Map) (ok : is_map m ≡ true) (a : NewTrafficSignal) (known : ever
     rises : (x : Option LineString) → Fresh (λ (x : LineString). x.num) m.next d.map.next x → (g : Option Rule)
         → rising (λ k. k) m.next (four g).map.next (map (λ c. c.num) (new_ones x (some sig) (rule' g))) ≡ true
     unfolding new_signal
-    rises none f none = let u = b.later in let v = four_next none in rise-two m.next (four none).map.next n new_rule.num (omega arith) (omega arith) (omega arith)
+    rises none f none = let u = b.later in let v = four_next none in rise_two m.next (four none).map.next n new_rule.num (omega arith) (omega arith) (omega arith)
     rises none f (some r) = let u = b.later in let v = four_next (some r) in rise_one m.next (four (some r)).map.next n (omega arith) (omega arith)
     rises (some x) f none =
         let u = f x refl in let p = u.0 in let q = u.1 in let v = four_next none in
-        rise-three m.next (four none).map.next x.num n new_rule.num p (omega arith) (omega arith) (omega arith)
+        rise_three m.next (four none).map.next x.num n new_rule.num p (omega arith) (omega arith) (omega arith)
     rises (some x) f (some r) =
         let u = f x refl in let p = u.0 in let q = u.1 in let v = four_next (some r) in
-        rise-two m.next (four (some r)).map.next x.num n p (omega arith) (omega arith)
+        rise_two m.next (four (some r)).map.next x.num n p (omega arith) (omega arith)
 
     light_shape : (es : Option SectionNames) (g : Option Rule) → Group m g → Shape m (draft es g)
     light_shape es g i = record {
@@ -721,7 +721,7 @@ plans a m p e =
     let p₆ = went (plan_for m a.lanes p₄.value a.choice a.points) _ p p₅.rest in
     let p₇ = went (anchor_for m a.lanes p₆.value) _ p p₆.rest in
     let p₈ = went (housing_for m (get_or a.lanes 0 0) p₇.value a.housing) _ p p₇.rest in
-    let r : p₆.value ≡ p.plan = ap (λ (x : Planned). x.plan) (done-is p₈.rest) in
+    let r : p₆.value ≡ p.plan = ap (λ (x : Planned). x.plan) (done_is p₈.rest) in
     record {
       unit = p₁.value;
       lanes = p₁.first;
@@ -733,7 +733,7 @@ plans a m p e =
       plan_is = subst (λ (x : Plan). plan_for m a.lanes p₄.value a.choice a.points ≡ done x) r p₆.first;
       anchor = p₇.value;
       anchor_is = subst (λ (x : Plan). anchor_for m a.lanes x ≡ done p₇.value) r p₇.first;
-      housing_is = subst (λ (x : Placed). housing_for m (get_or a.lanes 0 0) p₇.value a.housing ≡ done x) (ap (λ (x : Planned). x.housing) (done-is p₈.rest)) p₈.first;
+      housing_is = subst (λ (x : Placed). housing_for m (get_or a.lanes 0 0) p₇.value a.housing ≡ done x) (ap (λ (x : Planned). x.housing) (done_is p₈.rest)) p₈.first;
     }
 
 anchored : (m : Map) → is_map m ≡ true → (lanes : List ℕ) (s : ℕ) (x : Polyline) → anchor_for m lanes (use_line s) ≡ done x → s < m.next
@@ -745,15 +745,15 @@ anchored m ok lanes s x e =
 
 housing_warned : (m : Map) (n : ℕ) (xs : Polyline) (o : Option (List Float)) (p : Placed) → housing_for m n xs o ≡ done p → Warned 1 p.warnings
 unfolding housing_for
-housing_warned m n xs (some cs) p e = subst (λ (q : Placed). Warned 1 q.warnings) (done-is e) none_warned
-housing_warned m n xs none p e = let q = went (synthesize_signal_geometry m n xs) _ p e in subst (λ (q : Placed). Warned 1 q.warnings) (done-is q.rest) (bare_warned 3 refl)
+housing_warned m n xs (some cs) p e = subst (λ (q : Placed). Warned 1 q.warnings) (done_is e) none_warned
+housing_warned m n xs none p e = let q = went (synthesize_signal_geometry m n xs) _ p e in subst (λ (q : Placed). Warned 1 q.warnings) (done_is q.rest) (bare_warned 3 refl)
 
 draw_warned : (m : Map) (lanes : List ℕ) (how : Placement) (cs : List Float) (p : Placed) → get_or lanes 0 0 < 2 ^ 64 → draw_plan m lanes how cs ≡ done (draw p) → Warned 1 p.warnings
 unfolding draw_plan
 draw_warned m lanes how cs p h e =
     let q = went (place_stop_line m lanes how cs) _ (draw p) e in
     let r = q.rest in
-    same q.value (done-is r) (place_warned m lanes how cs q.value h q.first)
+    same q.value (done_is r) (place_warned m lanes how cs q.value h q.first)
   where
     same : (x : Placed) → draw x ≡ draw p → Warned 1 x.warnings → Warned 1 p.warnings
     same x e w = let z : x ≡ p = cc in subst (λ (y : Placed). Warned 1 y.warnings) z w
@@ -788,4 +788,4 @@ pub light_step : (a : NewTrafficSignal) (m : Map) (d : Draft) → is_map m ≡ t
 unfolding light_edit
 light_step a m d ok e =
     let q = went (light_plan a m) _ d e in
-    subst (Shape m) (done-is q.rest) (by_plan a m ok q.value.plan q.value.housing (plans a m q.value q.first))
+    subst (Shape m) (done_is q.rest) (by_plan a m ok q.value.plan q.value.housing (plans a m q.value q.first))

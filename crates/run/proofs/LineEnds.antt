@@ -15,7 +15,7 @@ use Rattle.place.specs.declared.Placement.{Placement}
 use Rattle.place.specs.declared.Placement.TheVariants.{AtLaneEnd}
 use Rattle.place.specs.Place.{check_lane_list, place_stop_line, refuse_found}
 use Rattle.place.proofs.EndLaws.{place_ends}
-use Rattle.place.proofs.Answers.{done-is, went, next, past}
+use Rattle.place.proofs.Answers.{done_is, went, next, past}
 use Rattle.edit.specs.declared.StopLineChoice.{StopLineChoice}
 use Rattle.edit.specs.declared.StopLineChoice.TheVariants.{Automatic, Existing, New, NoLine}
 use Rattle.edit.specs.Edit.{Draft}
@@ -45,7 +45,7 @@ unfolding stop_line_edit
 line_ends a m d e =
     let one = next (check_lane_list m a.lanes) _ d e in
     let two = went (place_stop_line m a.lanes a.placement a.points) _ d one.rest in
-    let t : drafts d ≡ _ = sym (ap drafts (done-is two.rest)) ∙ line_drafts a _ (rule_at a.rule (fresh m)) in
+    let t : drafts d ≡ _ = sym (ap drafts (done_is two.rest)) ∙ line_drafts a _ (rule_at a.rule (fresh m)) in
     record {
       placed = two.value;
       placed_is = two.first;
@@ -82,19 +82,19 @@ draws : (m : Map) (lanes : List ℕ) (how : Placement) (cs : List Float) (pl : P
 unfolding draw_plan plan_ends line_drawn
 draws m lanes how cs pl e =
     let w = went (place_stop_line m lanes how cs) _ pl e in
-    subst (λ (x : Plan). PlacedEnds m lanes how cs (planned m x)) (done-is w.rest)
+    subst (λ (x : Plan). PlacedEnds m lanes how cs (planned m x)) (done_is w.rest)
     (record { placed = w.value; placed_is = w.first; by = place_ends m lanes w.value how cs w.first; ends = refl; stored = refl })
 
 auto_ends : (m : Map) (lanes : List ℕ) (o : Option ℕ) (pl : Plan) → auto_plan m lanes o ≡ done pl → AutoEnds m lanes o (planned m pl)
 unfolding auto_plan plan_ends line_drawn
 auto_ends m lanes none pl e = draws m lanes (AtLaneEnd f0) [] pl e
-auto_ends m lanes (some s) pl e = subst (λ (x : Plan). NoEnds m (planned m x)) (done-is e) (record { ends = refl; stored = refl })
+auto_ends m lanes (some s) pl e = subst (λ (x : Plan). NoEnds m (planned m x)) (done_is e) (record { ends = refl; stored = refl })
 
 plan_ends_lem : (m : Map) (lanes : List ℕ) (g : Option ℕ) (c : StopLineChoice) (cs : List Float) (pl : Plan) → plan_for m lanes g c cs ≡ done pl → ChoiceEnds m lanes g c cs (planned m pl)
 unfolding plan_for plan_ends line_drawn
-plan_ends_lem m lanes g (Existing s) cs pl e = subst (λ (x : Plan). NoEnds m (planned m x)) (done-is e) (record { ends = refl; stored = refl })
-plan_ends_lem m lanes none NoLine cs pl e = subst (λ (x : Plan). NoEnds m (planned m x)) (done-is e) (record { ends = refl; stored = refl })
-plan_ends_lem m lanes (some s) NoLine cs pl e = subst (λ (x : Plan). NoEnds m (planned m x)) (done-is e) (record { ends = refl; stored = refl })
+plan_ends_lem m lanes g (Existing s) cs pl e = subst (λ (x : Plan). NoEnds m (planned m x)) (done_is e) (record { ends = refl; stored = refl })
+plan_ends_lem m lanes none NoLine cs pl e = subst (λ (x : Plan). NoEnds m (planned m x)) (done_is e) (record { ends = refl; stored = refl })
+plan_ends_lem m lanes (some s) NoLine cs pl e = subst (λ (x : Plan). NoEnds m (planned m x)) (done_is e) (record { ends = refl; stored = refl })
 plan_ends_lem m lanes g (New how) cs pl e = draws m lanes how cs pl e
 plan_ends_lem m lanes g Automatic cs pl e = auto_ends m lanes (or_else g (existing_stop_line m (get_or lanes 0 0))) pl e
 
@@ -104,7 +104,7 @@ light_ends a m d e =
     let w = went (light_plan a m) _ d e in
     let p = plans a m w.value w.first in
     let t : planned m w.value.plan ≡ drafts d =
-    sym (same_told (light_told a m w.value) (light_lines a m w.value)) ∙ ap drafts (done-is w.rest) in
+    sym (same_told (light_told a m w.value) (light_lines a m w.value)) ∙ ap drafts (done_is w.rest) in
     record { group = p.own; group_is = p.own_is; ends = subst (ChoiceEnds m a.lanes p.own a.choice a.points) t (plan_ends_lem m a.lanes p.own a.choice a.points w.value.plan p.plan_is) }
 
 -- ---- links
@@ -120,4 +120,4 @@ links_ends a m d e =
     let p₆ = next (refuse_found (unknown_in (λ c. c.num) m.crosswalks (sorted a.crosswalks)) 7) _ d p₅.rest in
     let p₇ = next (refuse_found (unknown_in (λ l. l.num) m.stop_lines (sorted a.stop_lines)) 5) _ d p₆.rest in
     let p₈ = went (relinked m (record { rule = a.rule; lanes = sorted a.lanes; crosswalks = sorted a.crosswalks; stop_lines = sorted a.stop_lines }) p₁.value.body) _ d p₇.rest in
-    subst (λ (x : Draft). NoEnds m (drafts x)) (done-is p₈.rest) (record { ends = refl; stored = refl })
+    subst (λ (x : Draft). NoEnds m (drafts x)) (done_is p₈.rest) (record { ends = refl; stored = refl })

@@ -25,11 +25,11 @@ use Rattle.changes.specs.ChangeFile.{max_warnings}
 use Rattle.changes.proofs.Entries.{Warned, more_warned, both_warned, one_warned}
 use Rattle.edit.specs.Edit.{Draft}
 use Rattle.place.specs.Place.{Placed, check_lane_list, place_stop_line}
-use Rattle.place.proofs.Answers.{done-is, went, next}
+use Rattle.place.proofs.Answers.{done_is, went, next}
 use Rattle.edit.specs.StopLine.{NewStopLine, rule_at, line_draft, stop_line_edit}
 use Rattle.edit.specs.declared.StopRule.{StopRule}
 use Rattle.edit.specs.declared.StopRule.TheVariants.{StopSign, Marking, NoRule}
-use Rattle.run.proofs.Answers.{lanes_known, below-fits, no-fresh, is_fresh, no_ok, is_ok, kept_same, kept-ok, none_gone, none-touched, rise_one, rise-two}
+use Rattle.run.proofs.Answers.{lanes_known, below_fits, no_fresh, is_fresh, no_ok, is_ok, kept_same, kept_ok, none_gone, none_touched, rise_one, rise_two}
 use Rattle.run.proofs.PlaceWarned.{first_fits, place_warned}
 use Rattle.run.proofs.Shape.{Shape, listed_created}
 
@@ -64,17 +64,17 @@ module _ (a : NewStopLine) (m : Map) (ok : is_map m ≡ true) (known : every (λ
     rules_are = rw (append-nil, changed_some m.rules);
     same = kept_same (λ (x : Rule). x.num);
     fresh_line = is_fresh (λ (x : LineString). x.num) m.next (suc (fresh m)) new_line (omega arith) (omega arith);
-    fresh_signal = no-fresh (λ (x : Signal). x.num) m.next (suc (fresh m));
-    fresh_rule = no-fresh (λ (x : Rule). x.num) m.next (suc (fresh m));
+    fresh_signal = no_fresh (λ (x : Signal). x.num) m.next (suc (fresh m));
+    fresh_rule = no_fresh (λ (x : Rule). x.num) m.next (suc (fresh m));
     later = omega arith;
     rise = rise_one m.next (suc (fresh m)) (fresh m) (omega arith) (omega arith);
     created = listed_created (some new_line) none none;
     deleted = λ a. none_gone (eqb a.kind 8) (find (λ r. r.num) a.num m.rules);
-    modified = λ c h a. none-touched (Rattle.map.specs.MapFile.rule).write (eqb a.kind 8) (find (λ r. r.num) a.num m.rules);
+    modified = λ c h a. none_touched (Rattle.map.specs.MapFile.rule).write (eqb a.kind 8) (find (λ r. r.num) a.num m.rules);
     line_ok = λ e. is_ok line_string_ok new_line (line_on_map p.points e);
     signal_ok_is = λ e. no_ok signal_ok;
     rule_ok_is = λ e. no_ok rule_ok;
-    change_ok = λ e. kept-ok rule_ok;
+    change_ok = λ e. kept_ok rule_ok;
     warned = λ h. more_warned 2 max_warnings _ (omega arith) (both_warned p.warnings _ pw (one_warned 2 5 (fresh m) refl refl (omega arith)));
   }
   shape (some w) f = record {
@@ -90,17 +90,17 @@ module _ (a : NewStopLine) (m : Map) (ok : is_map m ≡ true) (known : every (λ
     rules_are = rw (changed_some m.rules);
     same = kept_same (λ (x : Rule). x.num);
     fresh_line = is_fresh (λ (x : LineString). x.num) m.next (suc (fresh (with_line m p.points))) new_line (omega arith) (omega arith);
-    fresh_signal = no-fresh (λ (x : Signal). x.num) m.next (suc (fresh (with_line m p.points)));
+    fresh_signal = no_fresh (λ (x : Signal). x.num) m.next (suc (fresh (with_line m p.points)));
     fresh_rule = is_fresh (λ (x : Rule). x.num) m.next (suc (fresh (with_line m p.points))) (new_rule w) (omega arith) (omega arith);
     later = omega arith;
-    rise = rise-two m.next (suc (fresh (with_line m p.points))) (fresh m) (fresh (with_line m p.points)) (omega arith) (omega arith) (omega arith);
+    rise = rise_two m.next (suc (fresh (with_line m p.points))) (fresh m) (fresh (with_line m p.points)) (omega arith) (omega arith) (omega arith);
     created = listed_created (some new_line) none (some (new_rule w));
     deleted = λ a. none_gone (eqb a.kind 8) (find (λ r. r.num) a.num m.rules);
-    modified = λ c h a. none-touched (Rattle.map.specs.MapFile.rule).write (eqb a.kind 8) (find (λ r. r.num) a.num m.rules);
+    modified = λ c h a. none_touched (Rattle.map.specs.MapFile.rule).write (eqb a.kind 8) (find (λ r. r.num) a.num m.rules);
     line_ok = λ e. is_ok line_string_ok new_line (line_on_map p.points e);
     signal_ok_is = λ e. no_ok signal_ok;
-    rule_ok_is = λ h. is_ok rule_ok (new_rule w) (and_i _ _ (and_i _ _ (f w refl (omega arith)) (below-fits m.next (omega arith) a.lanes known)) refl);
-    change_ok = λ e. kept-ok rule_ok;
+    rule_ok_is = λ h. is_ok rule_ok (new_rule w) (and_i _ _ (and_i _ _ (f w refl (omega arith)) (below_fits m.next (omega arith) a.lanes known)) refl);
+    change_ok = λ e. kept_ok rule_ok;
     warned = λ h. more_warned 1 max_warnings _ (omega arith) pw;
   }
 
@@ -110,5 +110,5 @@ line_shape a m d ok e =
     let one = next (check_lane_list m a.lanes) _ d e in
     let two = went (place_stop_line m a.lanes a.placement a.points) _ d one.rest in
     let k = lanes_known m ok a.lanes one.value one.first in
-    subst (Shape m) (done-is two.rest)
+    subst (Shape m) (done_is two.rest)
     (shape a m ok k two.value (place_warned m a.lanes a.placement a.points two.value (first_fits m ok a.lanes k) two.first) (rule_at a.rule (fresh m)) (λ w q h. rule_of_lem a.rule (fresh m) w h q))

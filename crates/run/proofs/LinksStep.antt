@@ -31,8 +31,8 @@ use Rattle.changes.proofs.Refs.{same_as}
 use Rattle.edit.specs.Edit.{Draft}
 use Rattle.edit.specs.Links.{RegulatoryLinks, kinds_of, first_entry, relinked, to_list, stop_lines_of, same_links, link_changes, links_edit}
 use Rattle.place.specs.Place.{refuse_found}
-use Rattle.place.proofs.Answers.{never, done-is, went, next, past, there}
-use Rattle.run.proofs.Answers.{unfound, known, below-fits, no-fresh, no_ok}
+use Rattle.place.proofs.Answers.{never, done_is, went, next, past, there}
+use Rattle.run.proofs.Answers.{unfound, known, below_fits, no_fresh, no_ok}
 use Rattle.run.proofs.Rules.{body_ok, rule_made, put, put_all, put_same, put_gone, put_touched}
 use Rattle.run.proofs.Shape.{Shape, listed_created}
 
@@ -51,13 +51,13 @@ relinked_is m a (light signals line) w e =
     let p₄ = past (k.pedestrian && not (no_entries a.lanes && no_entries a.stop_lines)) 8 (3 ∷ []) _ w p₃.rest in
     let p₅ = past (k.vehicle && not (no_entries a.crosswalks)) 8 (4 ∷ []) _ w p₄.rest in
     let p₆ = past (ltb 1 (length a.stop_lines)) 8 (5 ∷ []) _ w p₅.rest in
-    subst (Relinked a.stop_lines (light signals line)) (done-is p₆.rest) of_light
+    subst (Relinked a.stop_lines (light signals line)) (done_is p₆.rest) of_light
 relinked_is m a (crossing c stop_lines) w e =
     let p = past (not (no_entries a.crosswalks)) 8 (6 ∷ []) _ w e in
-    subst (Relinked a.stop_lines (crossing c stop_lines)) (done-is p.rest) of_crossing
+    subst (Relinked a.stop_lines (crossing c stop_lines)) (done_is p.rest) of_crossing
 relinked_is m a (marking line) w e =
     let p = past (not (no_entries a.crosswalks && same_list a.stop_lines (line ∷ []))) 8 (7 ∷ []) _ w e in
-    subst (Relinked a.stop_lines (marking line)) (done-is p.rest) of_marking
+    subst (Relinked a.stop_lines (marking line)) (done_is p.rest) of_marking
 relinked_is m a (sign type shape line) w e = never e
 relinked_is m a (right_of_way priority yielding stop_lines) w e = never e
 relinked_is m a (other k) w e = never e
@@ -180,9 +180,9 @@ module _ (m : Map) (ok : is_map m ≡ true) (r s : Rule) (ls : List ℕ) (found 
     crosswalks_are = refl;
     rules_are = rw append-nil (put_all s m.rules);
     same = put_same s;
-    fresh_line = no-fresh (λ (x : LineString). x.num) m.next m.next;
-    fresh_signal = no-fresh (λ (x : Signal). x.num) m.next m.next;
-    fresh_rule = no-fresh (λ (x : Rule). x.num) m.next m.next;
+    fresh_line = no_fresh (λ (x : LineString). x.num) m.next m.next;
+    fresh_signal = no_fresh (λ (x : Signal). x.num) m.next m.next;
+    fresh_rule = no_fresh (λ (x : Rule). x.num) m.next m.next;
     later = omega arith;
     rise = unfold rising in refl;
     created = λ a. rw (no_created (same_links r s) r.num a) (listed_created none none none a);
@@ -211,9 +211,9 @@ links_shape a m d ok e =
     let v = found_is (λ (x : Rule). x.num) a.rule m.rules rule_ok r (rules_ok m ok) f in
     let h = next_fits m ok in
     let l = relinked_is m _ r.body p₈.value p₈.first in
-    let k₁ = below-fits m.next h (sorted a.lanes) (known m ok (λ (x : Lane). x.num) m.lanes (up₁ m ok) (sorted a.lanes) (unfound _ 1 p₅.first)) in
-    let k₇ = below-fits m.next h (sorted a.crosswalks) (known m ok (λ (x : Crosswalk). x.num) m.crosswalks (up₇ m ok) (sorted a.crosswalks) (unfound _ 7 p₆.first)) in
-    let k₅ = below-fits m.next h (sorted a.stop_lines) (known m ok (λ (x : LineString). x.num) m.stop_lines (up₅ m ok) (sorted a.stop_lines) (unfound _ 5 p₇.first)) in
+    let k₁ = below_fits m.next h (sorted a.lanes) (known m ok (λ (x : Lane). x.num) m.lanes (up₁ m ok) (sorted a.lanes) (unfound _ 1 p₅.first)) in
+    let k₇ = below_fits m.next h (sorted a.crosswalks) (known m ok (λ (x : Crosswalk). x.num) m.crosswalks (up₇ m ok) (sorted a.crosswalks) (unfound _ 7 p₆.first)) in
+    let k₅ = below_fits m.next h (sorted a.stop_lines) (known m ok (λ (x : LineString). x.num) m.stop_lines (up₅ m ok) (sorted a.stop_lines) (unfound _ 5 p₇.first)) in
     let s = rule_with r p₈.value (sorted a.lanes) (sorted a.crosswalks) in
-    subst (Shape m) (done-is p₈.rest)
+    subst (Shape m) (done_is p₈.rest)
     (shape m ok r s (sorted a.stop_lines) (subst (λ (k : ℕ). find (λ x. x.num) k m.rules ≡ some r) (sym v.1) f) refl l (rule_made r p₈.value (sorted a.lanes) (sorted a.crosswalks) (relinked_ok (sorted a.stop_lines) r.body p₈.value k₅ (body_ok r v.0) l) k₁ k₇))

@@ -23,7 +23,7 @@ use Rattle.changes.proofs.Entries.{Warned, none_warned, one_warned}
 use Rattle.place.specs.Place.{Placed, lane_centerline, check_polyline, cross_section, clamp_warning, place_at, place_as, place_stop_line}
 use Rattle.place.specs.declared.Placement.{Placement}
 use Rattle.place.specs.declared.Placement.TheVariants.{AtLaneEnd, AtStation, Given}
-use Rattle.place.proofs.Answers.{done-is, went, next, past}
+use Rattle.place.proofs.Answers.{done_is, went, next, past}
 
 pub first_fits : (m : Map) → is_map m ≡ true → (ls : List ℕ) → every (λ n. ltb n m.next) ls ≡ true → get_or ls 0 0 < 2 ^ 64
 unfolding every
@@ -45,11 +45,11 @@ unfolding place_at
 at_warned m ls n len x p h e =
     let p₁ = past (not (is_finite x)) 4 (3 ∷ []) _ p e in
     let p₂ = went (cross_section m n (clamp x f0 len) ls) _ p p₁.rest in
-    subst (λ (q : Placed). Warned 1 q.warnings) (done-is p₂.rest) (clamp_warned n x (clamp x f0 len) h)
+    subst (λ (q : Placed). Warned 1 q.warnings) (done_is p₂.rest) (clamp_warned n x (clamp x f0 len) h)
 
 as_warned : (how : Placement) (cs : List Float) (m : Map) (ls : List ℕ) (n : ℕ) (len : Float) (p : Placed) → n < 2 ^ 64 → place_as how cs m ls n len ≡ done p → Warned 1 p.warnings
 unfolding place_as
-as_warned Given cs m ls n len p h e = let p₁ = next (check_polyline cs) _ p e in subst (λ (q : Placed). Warned 1 q.warnings) (done-is p₁.rest) none_warned
+as_warned Given cs m ls n len p h e = let p₁ = next (check_polyline cs) _ p e in subst (λ (q : Placed). Warned 1 q.warnings) (done_is p₁.rest) none_warned
 as_warned (AtLaneEnd o) cs m ls n len p h e = let p₁ = past (not (is_finite o) || lt o f0) 4 (2 ∷ []) _ p e in at_warned m ls n len (len ⊖ o) p h p₁.rest
 as_warned (AtStation s) cs m ls n len p h e = at_warned m ls n len s p h e
 

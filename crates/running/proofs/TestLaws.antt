@@ -43,7 +43,7 @@ module _ (ws : List ℕ) (there : Bool) (k x n : ℕ) (h : n ≡ next_of ws) whe
   unfolding stands
   entry_gone l t b g = record { answer = λ cs. ap not (g.answer cs) ∙ sym (rw (low l cs, t)) }
 
-pub ruleset entry-told = (entry_high, entry_there, entry_gone)
+pub ruleset entry_told = (entry_high, entry_there, entry_gone)
 
 -- ---- one list
 refs_first : (t : List ℕ) (p n : ℕ) → 0 < n → refs_at t p n ≡ ref_at t p ∷ refs_at t (p + 2) (n - 1)
@@ -99,7 +99,7 @@ module _ (f : List ℕ) (t : Tally) where
   pub tally_deleted : t.created ≡ get_or f 0 0 → t.modified ≡ get_or f 1 0 → eqb t.deleted (get_or f 2 0) ≡ same_tally t (tally_of (change_set_of f))
   tally_deleted e d = sym (counts ∙ rw (eq-eqb t.created (get_or f 0 0) e, eq-eqb t.modified (get_or f 1 0) d))
 
-pub ruleset tally-told = (tally_created, tally_modified, tally_deleted)
+pub ruleset tally_told = (tally_created, tally_modified, tally_deleted)
 
 -- ---- the fold
 both : {A : Type 0} (p q : A → Bool) (xs : List A) → every p xs ≡ true → every q xs ≡ true → every (λ a. p a && q a) xs ≡ true
@@ -192,4 +192,4 @@ module _ (ws f : List ℕ) (t : Tally) where
             unfolding in_order_lem change_set_of
             all_told n d hd = from_order d (λ cs. rw (ok, quiet f w, ← hs, not-false s ys, ← ha.answer cs, not-false a ya, ← hb.answer cs, not-false b n) (hd.answer cs))
 
-pub ruleset fold-told = (bad_lists, ok_size, ok_room, has_warnings, bad_tally, bad_created, bad_modified, all_told)
+pub ruleset fold_told = (bad_lists, ok_size, ok_room, has_warnings, bad_tally, bad_created, bad_modified, all_told)

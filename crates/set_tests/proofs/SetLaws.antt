@@ -57,7 +57,7 @@ module _ (c k x : ℕ) where
       go zero e = first (warning c none) (bare_warned c coded)
       go (suc j) e = first (warning c (some (entity (suc j) x))) (one_warned c (suc j) x coded (and_i _ _ (lt-ltb 0 (suc j) (omega arith)) (lt-ltb (suc j) 9 (omega arith))) l)
 
-pub ruleset warning-told = (no_code, high_code, high_kind, good_warning)
+pub ruleset warning_told = (no_code, high_code, high_kind, good_warning)
 
 -- ---- all of them
 pub length-warnings : (t : List ℕ) (p n : ℕ) → length (warnings_at t p n) ≡ n
@@ -155,4 +155,4 @@ module _ (t : List ℕ) (p : Bool) (h : p ≡ lists_ok_in t) where
       ok true z = refl
       ok false z = sym z
 
-pub ruleset set-rules = (no_lists, set_size, set_told)
+pub ruleset set_rules = (no_lists, set_size, set_told)

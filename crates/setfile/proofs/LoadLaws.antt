@@ -100,9 +100,9 @@ module _ (s : Bytes) (p q r : Place) (t t1 t2 : List ℕ) (at : ℕ) (x : Word 1
             (rw (w.words.kept 0 (at + 1) (inl (omega arith))) (about_some s q r _ y.is v (get_or t3 (at + 2) 0) z (w.is ∙ range_any s r))));
       }
 
-pub ruleset loading-entry = (entry_read)
+pub ruleset loading_entry = (entry_read)
 
-pub ruleset loading-warning = (bare_read, about_read)
+pub ruleset loading_warning = (bare_read, about_read)
 
 -- ---- lists
 
@@ -197,9 +197,9 @@ module _ (s : Bytes) (t₀ : List ℕ) (q₀ : Place) (n : ℕ) (t : List ℕ) (
     pub warned_more : (r : Place) (t' : List ℕ) → ItemRead warning_form warning_at 3 s q t (3076 + k * 3) r t' → Warned s t₀ q₀ n t' r (k + 1)
     warned_more r t' x = rows_more warning_form warning_at 3 160 3076 warning_local s t₀ q₀ n t q k i h r t' x
 
-pub ruleset loading-entries = (entered_start, entered_inside, entered_more, entered_end)
+pub ruleset loading_entries = (entered_start, entered_inside, entered_more, entered_end)
 
-pub ruleset loading-warnings = (warned_start, warned_inside, warned_more, warned_end)
+pub ruleset loading_warnings = (warned_start, warned_inside, warned_more, warned_end)
 
 -- ---- the set: a list stays while those after it are loaded
 
@@ -243,4 +243,4 @@ module _ (s : Bytes) (q r v z : Place) (t t1 t2 t3 t4 : List ℕ) where
             (place_then (list 512 entry) warnings s r v z _ _ (rw (list_stays 2 t3 t4 c.few b3, list_is t3 2) c.is) (rw (warnings_list t4 3076 (get_or t4 3 0)) d.is)));
       }
 
-pub ruleset loading-set = (set_loaded)
+pub ruleset loading_set = (set_loaded)

@@ -55,9 +55,9 @@ module _ (t : List ℕ) (at : ℕ) (old mid new : Bytes) (p q r : Place) where
         go zero e f = absurd (f refl)
         go (suc k) e f = rw e (put_then _ _ old mid last p q s x (put_then _ _ mid new last q r s (rw e at y) z))
 
-pub ruleset putting-entry = (entry_put)
+pub ruleset putting_entry = (entry_put)
 
-pub ruleset putting-warning = (bare_put, about_put)
+pub ruleset putting_warning = (bare_put, about_put)
 
 -- ---- lists
 
@@ -94,9 +94,9 @@ module _ (t : List ℕ) (from n : ℕ) where
   pub word_inside : (k w : ℕ) → from + n * w ≤ length t → k < n → from + k * w + w ≤ length t
   word_inside k w h l = omega (arith, mul-le-mul_right {m = suc k} {n = n} w (omega arith))
 
-pub ruleset putting-entries = (entered_start, entered_more, entered_end)
+pub ruleset putting_entries = (entered_start, entered_more, entered_end)
 
-pub ruleset putting-warnings = (warned_start, warned_more, warned_end)
+pub ruleset putting_warnings = (warned_start, warned_more, warned_end)
 
 -- ---- the set
 
@@ -129,4 +129,4 @@ module _ (t : List ℕ) (a b c d : ℕ) (o o1 o2 o3 o4 : Bytes) (p p1 p2 p3 p4 :
   set_put ea eb ec ed w x y z =
       rw (← ea, ← eb, ← ec, ← ed) (put_then _ _ o o1 o4 p p1 p4 w (put_then _ _ o1 o2 o4 p1 p2 p4 x (put_then _ _ o2 o3 o4 p2 p3 p4 y z)))
 
-pub ruleset putting-set = (created_room, modified_room, deleted_room, set_long, warnings_room, set_put)
+pub ruleset putting_set = (created_room, modified_room, deleted_room, set_long, warnings_room, set_put)

@@ -29,7 +29,7 @@ use Rattle.place.proofs.LineLaws.{line_part_lem, part_long}
 use Rattle.placing.specs.declared.Checked.{Checked}
 use Rattle.placing.specs.declared.Checked.TheVariants.{Fine, Refused}
 use Rattle.placing.specs.declared.PlacedLine.{PlacedLine}
-use Rattle.placing.specs.Answers.{checked, placedAnswer, RefusedWith, LanesChecked}
+use Rattle.placing.specs.Answers.{checked, placed_answer, RefusedWith, LanesChecked}
 use Rattle.placing.proofs.CheckLaws.{lanes_there}
 use Rattle.edit.specs.declared.StopRule.{StopRule}
 use Rattle.edit.specs.declared.StopRule.TheVariants.{StopSign, Marking, NoRule}
@@ -122,8 +122,8 @@ module _ (ws : List ℕ) (cs : List Float) (a : NewStopLine) where
     unfolding planned
     lanes_refused x e p h = turned_down x p h (rw (edit_is a m, ← h0.answer cs, e))
 
-    module _ (e0 : r0 ≡ Fine) (p : PlacedLine) (hp : placedAnswer reference p ≡ place_stop_line m a.lanes a.placement a.points) where
-      placed_edit : stop_line_edit a m ≡ (placedAnswer reference p >>= λ q. done (placed_draft a.rule a.lanes m q))
+    module _ (e0 : r0 ≡ Fine) (p : PlacedLine) (hp : placed_answer reference p ≡ place_stop_line m a.lanes a.placement a.points) where
+      placed_edit : stop_line_edit a m ≡ (placed_answer reference p >>= λ q. done (placed_draft a.rule a.lanes m q))
       placed_edit = edit_is a m ∙ rw (← h0.answer cs, e0, ← hp)
 
       pub place_refused : (x : Refusal) → p.checked ≡ Refused x → (p' : PlacedLine) → RefusedWith x p' → LinePlanned ws cs a p'

@@ -20,7 +20,7 @@ use Rattle.place.specs.Values as line
 use Rattle.placing.specs.declared.Checked.{Checked}
 use Rattle.placing.specs.declared.Checked.TheVariants.{Fine}
 use Rattle.placing.specs.declared.PlacedLine.{PlacedLine}
-use Rattle.placing.specs.Answers.{placedAnswer}
+use Rattle.placing.specs.Answers.{placed_answer}
 use Rattle.edit.specs.declared.StopRule.{StopRule}
 use Rattle.edit.specs.declared.StopRule.TheVariants.{StopSign, Marking, NoRule}
 use Rattle.edit.specs.Edit.{Draft}
@@ -62,7 +62,7 @@ end_tests rule lanes lines rules used xs = do
   refuse_when (not (room_for rule lanes lines rules used (length xs))) 10 []
 
 pub record LinePlanned (ws : List ℕ) (cs : List Float) (a : NewStopLine) (r : PlacedLine) : Type 0 where
-  pub answer : (placedAnswer (get_or a.lanes 0 0) r >>= λ p. done (placed_draft a.rule a.lanes (map_of ws cs) p)) ≡ planned (stop_line_edit a) (map_of ws cs)
+  pub answer : (placed_answer (get_or a.lanes 0 0) r >>= λ p. done (placed_draft a.rule a.lanes (map_of ws cs) p)) ≡ planned (stop_line_edit a) (map_of ws cs)
   pub room : line.Roomy r.line
   pub lanes : r.checked ≡ Fine → 0 < length a.lanes
 

@@ -5,20 +5,20 @@ use borrow.Author.Rules.{rules}
 use Rattle.mapput.proofs.put_row.Goals as goal
 
 pub place-a-requires : goal.place-a-requires
-place-a-requires c = search (rules, L.putting-row)
+place-a-requires c = search (rules, L.putting_row)
 
 pub width-requires : goal.width-requires
-width-requires c = search (rules, L.putting-row)
+width-requires c = search (rules, L.putting_row)
 
 pub overflow_add-e : goal.overflow_add-e
 overflow_add-e c = let h = F.row_fits _ _ _ _ c.requires.0 c.requires.1 c.place-a.ensures c.width.ensures in
     omega arith
 
 pub coord_place-c-requires : goal.coord_place-c-requires
-coord_place-c-requires c = search (rules, L.putting-row)
+coord_place-c-requires c = search (rules, L.putting_row)
 
 pub coord_width-requires : goal.coord_width-requires
-coord_width-requires c = search (rules, L.putting-row)
+coord_width-requires c = search (rules, L.putting_row)
 
 pub overflow_add-f : goal.overflow_add-f
 overflow_add-f c = let h = F.coord_row_fits _ _ _ _ c.requires.0 c.requires.1 c.coord_place-c.ensures c.coord_width.ensures in
@@ -29,10 +29,10 @@ offset_bounds-words-a c = let h = F.row_fits _ _ _ _ c.requires.0 c.requires.1 c
     omega arith
 
 pub slice_bounds-put_record-count : goal.slice_bounds-put_record-count
-slice_bounds-put_record-count c = search (rules, L.putting-row)
+slice_bounds-put_record-count c = search (rules, L.putting_row)
 
 pub slice_bounds-put_record-start : goal.slice_bounds-put_record-start
-slice_bounds-put_record-start c = search (rules, L.putting-row)
+slice_bounds-put_record-start c = search (rules, L.putting_row)
 
 pub slice_bounds-put_record-end : goal.slice_bounds-put_record-end
 slice_bounds-put_record-end c = let h = F.row_fits _ _ _ _ c.requires.0 c.requires.1 c.place-a.ensures c.width.ensures in
@@ -43,20 +43,20 @@ offset_bounds-coords-c c = let h = F.coord_row_fits _ _ _ _ c.requires.0 c.requi
     omega arith
 
 pub slice_bounds-put_record-count-2 : goal.slice_bounds-put_record-count-2
-slice_bounds-put_record-count-2 c = search (rules, L.putting-row)
+slice_bounds-put_record-count-2 c = search (rules, L.putting_row)
 
 pub slice_bounds-put_record-start-2 : goal.slice_bounds-put_record-start-2
-slice_bounds-put_record-start-2 c = search (rules, L.putting-row)
+slice_bounds-put_record-start-2 c = search (rules, L.putting_row)
 
 pub slice_bounds-put_record-end-2 : goal.slice_bounds-put_record-end-2
 slice_bounds-put_record-end-2 c = let h = F.coord_row_fits _ _ _ _ c.requires.0 c.requires.1 c.coord_place-c.ensures c.coord_width.ensures in
     omega (arith, c.requires.3)
 
 pub put_record-requires : goal.put_record-requires
-put_record-requires c = search (rules, L.putting-row)
+put_record-requires c = search (rules, L.putting_row)
 
 pub shape_of-out : goal.shape_of-out
-shape_of-out c = search (rules, L.putting-row)
+shape_of-out c = search (rules, L.putting_row)
 
 pub returns : goal.returns
-returns c = search (rules, L.putting-row)
+returns c = search (rules, L.putting_row)

@@ -3,13 +3,13 @@ use borrow.Author.Rules.{rules}
 use Rattle.putfields.proofs.put_word.Goals as goal
 
 pub word-w-requires : goal.word-w-requires
-word-w-requires c = search (rules, L.putting-word)
+word-w-requires c = search (rules, L.putting_word)
 
 pub put_number-requires : goal.put_number-requires
-put_number-requires c = search (rules, L.putting-word)
+put_number-requires c = search (rules, L.putting_word)
 
 pub shape_of-out : goal.shape_of-out
-shape_of-out c = search (rules, L.putting-word)
+shape_of-out c = search (rules, L.putting_word)
 
 pub returns : goal.returns
-returns c = search (rules, L.putting-word)
+returns c = search (rules, L.putting_word)

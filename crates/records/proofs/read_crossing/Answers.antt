@@ -3,13 +3,13 @@ use Rattle.records.proofs.RuleLaws as L
 use Rattle.records.proofs.read_crossing.Goals as goal
 
 pub read_word-lines-requires : goal.read_word-lines-requires
-read_word-lines-requires c = search (rules, L.reading-parts)
+read_word-lines-requires c = search (rules, L.reading_parts)
 
 pub read_numbers-requires : goal.read_numbers-requires
-read_numbers-requires c = search (rules, L.reading-parts)
+read_numbers-requires c = search (rules, L.reading_parts)
 
 pub shape_of-words : goal.shape_of-words
-shape_of-words c = search (rules, L.reading-parts)
+shape_of-words c = search (rules, L.reading_parts)
 
 pub returns : goal.returns
-returns c = search (rules, L.reading-parts)
+returns c = search (rules, L.reading_parts)

