@@ -14,7 +14,7 @@ use call_list::{Carried, Ran, Reply, RunAnswer};
 use changes::Tally;
 use files::{ChangesRead, MapRead, Written};
 use place::MaybeEnds;
-use sample_text::{bytes, expect_number, hex_at, line_end, name_at, number_at};
+use sample_text::{bytes, double_at, expect_number, line_end, name_at, number_at};
 
 // The descriptor that programs print to.
 const STDOUT_FILENO: i32 = 1;
@@ -69,8 +69,8 @@ fn spoil_word(text: &[u8], at: usize, t: &mut [u64]) {
 
 fn spoil_coord(text: &[u8], at: usize, t: &mut [f64]) {
     let i = number_at(text, at);
-    let v = hex_at(text, i.next);
-    put_real(t, rows::index(i.value), sample_text::double_of(v.value));
+    let v = double_at(text, i.next);
+    put_real(t, rows::index(i.value), v.value);
 }
 
 fn tally_at(text: &[u8], at: usize) -> Tally {

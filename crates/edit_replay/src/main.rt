@@ -10,6 +10,7 @@ use place::MaybeEnds;
 use request_calls::line_over;
 use sample_text::{expect_number, hex_at, name_at};
 use std::fs::File;
+use std::num::f64_from_bits_with_nan;
 use std::os::unix::fs::FileExt;
 
 // The descriptor that programs print to.
@@ -170,15 +171,14 @@ fn told_start(text: &[u8], answer: usize) -> usize {
 
 // Whether the stored root of a pattern is that of both forms, on patterns and on doubles.
 fn root_as(text: &[u8], at: usize, answer: usize) -> bool {
-    let x = hex_at(text, at);
-    let y = hex_at(text, told_start(text, answer));
-    let r = root::square_root(sample_text::double_of(x.value));
-    if root::square_root_bits(x.value) == y.value {
-        if sample_text::bytes::bits_of(r) == y.value {
-            return line_over(text, y.next);
-        }
-    }
-    false
+    let stored = hex_at(text, told_start(text, answer));
+    let (Some(x), Some(y)) = (hex_at(text, at).value, stored.value) else {
+        return false;
+    };
+    let root = root::square_root(f64_from_bits_with_nan(x));
+    root::square_root_bits(x) == y
+        && sample_text::bytes::bits_of(root) == y
+        && line_over(text, stored.next)
 }
 
 // What is asked between the edits: the map's file, the running fold's, the tally, a root.

@@ -145,7 +145,7 @@ pub fn open(
 
 // Every word and every coordinate of the memory that a call is lent, in one number, to tell whether a refusal altered any.
 pub fn checksum(words: &[u64], coords: &[f64], fold: &[u64], set: &[u64]) -> u64 {
-    let a = bytes::hash_words(words, 0xCBF29CE484222325);
+    let a = bytes::hash_words(words, bytes::HASH_START);
     let b = bytes::hash_doubles(coords, a);
     let c = bytes::hash_words(fold, b);
     bytes::hash_words(set, c)

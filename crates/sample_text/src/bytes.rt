@@ -1,43 +1,33 @@
 // Bytes in pairs of hexadecimal digits, `-` for none, and their hash.
 ghost use Rattle.std.specs.Prelude.{◌≤◌, length};
+ghost use Rattle.std.specs.Iterator.{IsFinite};
 
-use crate::{digit, hex_at, letter, name_at};
+use crate::{hex_at, past, word_at};
+use std::num::f64_to_bits_with_nan;
 
-// The byte whose two digits start at `at`; 256 where there are no two.
-pub fn byte_at(text: &[u8], at: usize) -> u64 {
-    if text.len() < 2 {
-        return 256;
-    }
-    if text.len() - 2 < at {
-        return 256;
-    }
-    let high = text[at];
-    let low = text[at + 1];
-    if high <= 32 {
-        return 256;
-    }
-    if low <= 32 {
-        return 256;
-    }
-    (digit(high) << 4) | digit(low)
+// The byte of two digits; none where there are no two.
+fn byte_of(pair: &[u8]) -> Option<u8> {
+    let [high, low] = pair else {
+        return None;
+    };
+    let high = char::from(*high).to_digit(16)?;
+    let low = char::from(*low).to_digit(16)?;
+    u8::try_from(high * 16 + low).ok()
 }
 
 // The bytes of a word, as far as there is room for them: how many.
 pub fn bytes_at(text: &[u8], at: usize, bytes: &mut [u8]) -> usize
     ensures { result ≤ length bytes.old }
 {
-    let mut n = 0;
-    let mut i = at;
-    while n < bytes.len() {
-        let b = byte_at(text, i);
-        if b > 255 {
+    let word = word_at(text, at);
+    let mut pairs = word.value.chunks_exact(2);
+    for (n, byte) in bytes.iter_mut().enumerate() {
+        let Some(stored) = pairs.next().and_then(byte_of) else {
             return n;
-        }
-        bytes[n] = b as u8;
-        i = std::num::wrapping_add_usize(i, 2);
-        n += 1;
+        };
+        *byte = stored;
     }
-    n
+    bytes.len()
 }
 
 // The stored answer is these bytes: where the next word starts, or 0 where they are others. 0 stays.
@@ -45,80 +35,51 @@ pub fn expect_bytes(text: &[u8], at: usize, bytes: &[u8]) -> usize {
     if at == 0 {
         return 0;
     }
-    let mut i = at;
-    let mut n = 0;
-    while n < bytes.len() {
-        if byte_at(text, i) != letter(bytes[n]) {
-            return 0;
-        }
-        i = std::num::wrapping_add_usize(i, 2);
-        n += 1;
-    }
-    if byte_at(text, i) < 256 {
-        return 0;
-    }
-    name_at(text, i).next
+    let word = word_at(text, at);
+    let stored = word.value.chunks_exact(2).map(byte_of);
+    let met = stored.eq(bytes.iter().map(|b| Some(*b)));
+    past(word, met)
 }
 
-// FNV-1a's multiplication by 2 ^ 40 + 435.
-fn stirred(h: u64) -> u64 {
-    let a = std::num::wrapping_add_u64(h << 40, h << 8);
-    let b = std::num::wrapping_add_u64(h << 7, h << 5);
-    let c = std::num::wrapping_add_u64(h << 4, h << 1);
-    let d = std::num::wrapping_add_u64(a, b);
-    std::num::wrapping_add_u64(d, std::num::wrapping_add_u64(c, h))
+// Where the FNV-1a hash starts.
+pub const HASH_START: u64 = 0xCBF29CE484222325;
+
+// The FNV-1a hash of numbers, from another's on: it takes in a whole number where the hash of bytes takes in a byte.
+fn hash_from<I: Iterator<Item = u64> + Drop>(values: I, from: u64) -> u64
+    requires can { I.can_next values }
+    requires ends { IsFinite (I.remaining values) }
+{
+    values.fold(from, |h, value| (h ^ value).wrapping_mul(0x100000001B3))
 }
 
 // The 64-bit FNV-1a hash.
 pub fn hash(bytes: &[u8]) -> u64 {
-    let mut h = 0xCBF29CE484222325u64;
-    let mut n = 0;
-    while n < bytes.len() {
-        h = stirred(h ^ letter(bytes[n]));
-        n += 1;
-    }
-    h
+    hash_from(bytes.iter().map(|b| u64::from(*b)), HASH_START)
 }
 
 // The same over words, to tell memory that was altered.
 pub fn hash_words(words: &[u64], from: u64) -> u64 {
-    let mut h = from;
-    let mut n = 0;
-    while n < words.len() {
-        h = stirred(h ^ words[n]);
-        n += 1;
-    }
-    h
+    hash_from(words.iter().copied(), from)
 }
 
 // A double's bits; every NaN is one.
 pub fn bits_of(x: f64) -> u64 {
-    if x != x {
-        return 0x7FF8000000000000;
-    }
-    f64::to_bits(x)
+    f64_to_bits_with_nan(x)
 }
 
 pub fn hash_doubles(xs: &[f64], from: u64) -> u64 {
-    let mut h = from;
-    let mut n = 0;
-    while n < xs.len() {
-        h = stirred(h ^ bits_of(xs[n]));
-        n += 1;
-    }
-    h
+    hash_from(xs.iter().map(|x| bits_of(*x)), from)
 }
 
 // The stored answer is the bytes' hash behind `#`, or the bytes themselves.
 pub fn expect_file(text: &[u8], at: usize, bytes: &[u8]) -> usize {
-    if at < text.len() {
-        if text[at] == b'#' {
-            let w = hex_at(text, at + 1);
-            if w.value == hash(bytes) {
-                return w.next;
-            }
-            return 0;
-        }
+    if text.get(at) == Some(&b'#') {
+        let word = hex_at(text, at + 1);
+        return if word.value == Some(hash(bytes)) {
+            word.next
+        } else {
+            0
+        };
     }
     expect_bytes(text, at, bytes)
 }

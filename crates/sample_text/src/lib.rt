@@ -4,18 +4,14 @@
 
 pub mod bytes;
 
-ghost use Rattle.std.specs.Prelude.{◌≡◌, ◌<◌, ◌≤◌, length};
+ghost use Rattle.std.specs.Prelude.{◌≡◌, ◌<◌, ◌≤◌, length, slice_index, EachIndex};
+
+use std::num::f64_from_bits_with_nan;
 
 // What a word says, and where the next one starts.
 #[derive(Drop)]
-pub struct Word {
-    pub value: u64,
-    pub next: usize,
-}
-
-#[derive(Drop)]
-pub struct Double {
-    pub value: f64,
+pub struct Word<T> {
+    pub value: T,
     pub next: usize,
 }
 
@@ -32,92 +28,89 @@ pub fn line_end(text: &[u8], at: usize) -> usize
     requires { at < length text.now }
     ensures { (at < result) × (result ≤ length text.now) }
 {
-    let mut i = at;
-    while i < text.len() {
-        if text[i] == 10 {
-            return i + 1;
-        }
-        i += 1;
+    match text[at..].iter().position(|b| *b == b'\n') {
+        Some(n) => at + n + 1,
+        None => text.len(),
     }
-    i
 }
 
-pub fn digit(b: u8) -> u64 {
-    let d = b as u64;
-    if d < 58 { d % 16 } else { d % 16 + 9 }
+// The letters up to a blank or the end of the line.
+pub fn word_at(text: &[u8], at: usize) -> Word<&[u8]>
+    ensures letters { EachIndex result.value.now (λ k. 32 < slice_index result.value.now k) }
+    ensures forward { at ≤ result.next }
+    ensures within { at ≤ length text.now → result.next ≤ length text.now }
+{
+    let rest = text.get(at..).unwrap_or(&[]);
+    match rest.iter().position(|b| *b <= b' ') {
+        Some(n) => Word {
+            value: &rest[..n],
+            next: at + n + 1,
+        },
+        None => Word {
+            value: rest,
+            next: at + rest.len(),
+        },
+    }
 }
 
-pub fn hex_at(text: &[u8], at: usize) -> Word {
-    let mut value = 0u64;
-    let mut i = at;
-    while i < text.len() {
-        let b = text[i];
-        if b <= 32 {
-            return Word { value, next: i + 1 };
-        }
-        value = (value << 4) | digit(b);
-        i += 1;
-    }
-    Word { value, next: i }
+// A word as a number to a base; none where it is no such number.
+fn number_of(word: &[u8], base: u32) -> Option<u64>
+    requires { (2 ≤ base) × (base ≤ 36) }
+{
+    let digits = str::from_utf8(word).ok()?;
+    u64::from_str_radix(digits, base).ok()
 }
 
-pub fn number_at(text: &[u8], at: usize) -> Word {
-    let mut value = 0u64;
-    let mut i = at;
-    while i < text.len() {
-        let b = text[i];
-        if b <= 32 {
-            return Word { value, next: i + 1 };
-        }
-        let ten = std::num::wrapping_add_u64(value << 3, value << 1);
-        value = std::num::wrapping_add_u64(ten, digit(b));
-        i += 1;
+// A double's pattern; none where the word is no such number.
+pub fn hex_at(text: &[u8], at: usize) -> Word<Option<u64>> {
+    let word = word_at(text, at);
+    Word {
+        value: number_of(word.value, 16),
+        next: word.next,
     }
-    Word { value, next: i }
+}
+
+// A word that is no number counts as 0.
+pub fn number_at(text: &[u8], at: usize) -> Word<u64> {
+    let word = word_at(text, at);
+    Word {
+        value: number_of(word.value, 10).unwrap_or(0),
+        next: word.next,
+    }
 }
 
 // The last eight letters of a name, which tell the functions apart.
-pub fn name_at(text: &[u8], at: usize) -> Word {
-    let mut value = 0u64;
-    let mut i = at;
-    while i < text.len() {
-        let b = text[i];
-        if b <= 32 {
-            return Word { value, next: i + 1 };
-        }
-        value = (value << 8) | letter(b);
-        i += 1;
+pub fn name_at(text: &[u8], at: usize) -> Word<u64> {
+    let word = word_at(text, at);
+    Word {
+        value: word.value.iter().fold(0, |n, b| (n << 8) | letter(*b)),
+        next: word.next,
     }
-    Word { value, next: i }
 }
 
 pub fn letter(b: u8) -> u64 {
-    b as u64
+    u64::from(b)
 }
 
-// Every NaN pattern is a NaN.
-pub fn double_of(bits: u64) -> f64 {
-    if bits % 9223372036854775808 > 9218868437227405312 {
-        return 0.0 / 0.0;
-    }
-    f64::from_bits(bits)
-}
-
-pub fn double_at(text: &[u8], at: usize) -> Double {
-    let w = hex_at(text, at);
-    Double {
-        value: double_of(w.value),
-        next: w.next,
+// A word that is no pattern, as `nan`, is a NaN.
+pub fn double_at(text: &[u8], at: usize) -> Word<f64> {
+    let word = hex_at(text, at);
+    Word {
+        value: word
+            .value
+            .map_or(f64::NAN, |bits| f64_from_bits_with_nan(bits)),
+        next: word.next,
     }
 }
 
 pub fn points_at(text: &[u8], at: usize) -> Points
     ensures { 192 ≡ length result.coords }
 {
-    let w = number_at(text, at);
-    let count = w.value;
+    let Word {
+        value: count,
+        mut next,
+    } = number_at(text, at);
     let mut coords = [0.0; 192];
-    let mut next = w.next;
     if count > 64 {
         return Points {
             coords,
@@ -126,12 +119,10 @@ pub fn points_at(text: &[u8], at: usize) -> Points
         };
     }
     let n = count as usize * 3;
-    let mut i = 0;
-    while i < n {
-        let d = double_at(text, next);
-        coords[i] = d.value;
-        next = d.next;
-        i += 1;
+    for coord in coords[..n].iter_mut() {
+        let double = double_at(text, next);
+        *coord = double.value;
+        next = double.next;
     }
     Points {
         coords,
@@ -142,29 +133,29 @@ pub fn points_at(text: &[u8], at: usize) -> Points
 
 // ---- the stored answer, from `at` on: where the next word starts, or 0 where it is another. 0 stays.
 
+// Past a word that is what was expected.
+pub(crate) fn past(word: Word<&[u8]>, met: bool) -> usize {
+    if met { word.next } else { 0 }
+}
+
 pub fn expect_number(text: &[u8], at: usize, n: u64) -> usize {
     if at == 0 {
         return 0;
     }
-    let w = number_at(text, at);
-    if w.value == n { w.next } else { 0 }
+    let word = word_at(text, at);
+    let met = number_of(word.value, 10) == Some(n);
+    past(word, met)
 }
 
 pub fn expect(text: &[u8], at: usize, x: f64) -> usize {
     if at == 0 {
         return 0;
     }
-    if x != x {
-        let w = name_at(text, at);
-        if w.value == 0x6E616E {
-            return w.next;
-        }
-        return 0;
-    }
-    let w = hex_at(text, at);
-    if w.value == f64::to_bits(x) {
-        w.next
+    let word = word_at(text, at);
+    let met = if x.is_nan() {
+        matches!(word.value, b"nan")
     } else {
-        0
-    }
+        number_of(word.value, 16) == Some(x.to_bits())
+    };
+    past(word, met)
 }

@@ -1,9 +1,0 @@
--- `sample_text::bytes::expect_bytes` is safe and ends: fewer bytes are left. Assumes nothing.
-use Rattle.std.proofs.Common.{◌-◌, length}
-use Rattle.sample_text.proofs.bytes.expect_bytes.Given as goal
-
-abbrev pub invariant-loop-n : goal.invariant-loop-n
-invariant-loop-n l = Unit
-
-abbrev pub decreases-loop-n : goal.decreases-loop-n
-decreases-loop-n l = length l.bytes - l.n
