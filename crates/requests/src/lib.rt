@@ -5,9 +5,9 @@
 // asks for is shown by the replays; proved is that every text is read safely.
 #![tactic(auto)]
 
-ghost use Rattle.std.specs.Prelude.{◌<◌};
+ghost use Rattle.std.specs.Prelude.{◌+◌, ◌<◌, ◌≤◌};
 
-use sample_text::{Word, double_at, name_at, number_at};
+use sample_text::{Word, double_at, number_at, word_at};
 
 pub const ROW: usize = 28;
 
@@ -15,314 +15,261 @@ pub const LISTS: usize = 96;
 
 pub const REALS: usize = 458;
 
-// A word that names no case: no field has so many.
+// What the row has for a word that names no case: no field has so many.
 const NO_CASE: u64 = 255;
 
-// The fields that are cases.
+// The fields that are cases: the words of each, in the order of their numbers.
+const PLACEMENTS: [&[u8]; 3] = [b"end", b"station", b"points"];
+
+const RULES: [&[u8]; 3] = [b"sign", b"marking", b"none"];
+
+const CHOICES: [&[u8]; 4] = [b"auto", b"existing", b"new", b"none"];
+
+const GIVEN: [&[u8]; 2] = [b"-", b"+"];
+
+// What a word may say.
+trait Said: Drop {
+    fn said(text: &[u8], at: usize) -> Word<Self>;
+}
+
+impl Said for u64 {
+    fn said(text: &[u8], at: usize) -> Word<u64> {
+        number_at(text, at)
+    }
+}
+
+impl Said for f64 {
+    fn said(text: &[u8], at: usize) -> Word<f64> {
+        double_at(text, at)
+    }
+}
+
+// The words of a text, from a place on.
 #[derive(Drop)]
-enum Field {
-    Placement,
-    Rule,
-    Choice,
-    Given,
-}
-
-fn placement_case(name: u64) -> u64 {
-    // `end`, `station`, `points`
-    match name {
-        0x656E64 => 0,
-        0x73746174696F6E => 1,
-        0x706F696E7473 => 2,
-        _ => NO_CASE,
-    }
-}
-
-fn rule_case(name: u64) -> u64 {
-    // `sign`, `marking`, `none`
-    match name {
-        0x7369676E => 0,
-        0x6D61726B696E67 => 1,
-        0x6E6F6E65 => 2,
-        _ => NO_CASE,
-    }
-}
-
-fn choice_case(name: u64) -> u64 {
-    // `auto`, `existing`, `new`, `none`
-    match name {
-        0x6175746F => 0,
-        0x6578697374696E67 => 1,
-        0x6E6577 => 2,
-        0x6E6F6E65 => 3,
-        _ => NO_CASE,
-    }
-}
-
-fn given_case(name: u64) -> u64 {
-    // `-`, `+`
-    match name {
-        0x2D => 0,
-        0x2B => 1,
-        _ => NO_CASE,
-    }
-}
-
-fn case_of(field: Field, name: u64) -> u64 {
-    match field {
-        Field::Placement => placement_case(name),
-        Field::Rule => rule_case(name),
-        Field::Choice => choice_case(name),
-        Field::Given => given_case(name),
-    }
-}
-
-fn is_number(text: &[u8], at: usize) -> bool {
-    if text.len() <= at {
-        return false;
-    }
-    let b = text[at];
-    if b < 48 {
-        return false;
-    }
-    b < 58
-}
-
-// A case by its number or by its word.
-fn case_at(text: &[u8], at: usize, field: Field) -> Word {
-    if is_number(text, at) {
-        return number_at(text, at);
-    }
-    let w = name_at(text, at);
-    Word {
-        value: case_of(field, w.value),
-        next: w.next,
-    }
-}
-
-fn put(t: &mut [u64], i: usize, v: u64) {
-    if i < t.len() {
-        t[i] = v;
-    }
-}
-
-fn put_real(t: &mut [f64], i: usize, v: f64) {
-    if i < t.len() {
-        t[i] = v;
-    }
-}
-
-// n numbers into the pool from an index on; the place after them.
-fn numbers_into(text: &[u8], at: usize, pool: &mut [u64], from: usize, n: usize) -> usize {
-    let mut next = at;
-    let mut i = 0;
-    while i < n {
-        let w = number_at(text, next);
-        put(pool, std::num::wrapping_add_usize(from, i), w.value);
-        next = w.next;
-        i += 1;
-    }
-    next
-}
-
-// The same of doubles.
-fn reals_into(text: &[u8], at: usize, pool: &mut [f64], from: usize, n: usize) -> usize {
-    let mut next = at;
-    let mut i = 0;
-    while i < n {
-        let w = double_at(text, next);
-        put_real(pool, std::num::wrapping_add_usize(from, i), w.value);
-        next = w.next;
-        i += 1;
-    }
-    next
-}
-
-// Place and count of a list, into words k and k + 1 of the row.
-fn put_part(row: &mut [u64], k: usize, place: u64, count: u64) {
-    put(row, k, place);
-    put(row, std::num::wrapping_add_usize(k, 1), count);
-}
-
-// A list of numbers. One that is too long makes no call.
-fn list_into(
-    text: &[u8],
+struct Words<'a> {
+    text: &'a [u8],
     at: usize,
-    row: &mut [u64],
-    lists: &mut [u64],
-    k: usize,
-    from: u64,
-) -> usize {
-    let w = number_at(text, at);
-    if 32 < w.value {
-        put(row, 0, 0);
-        return w.next;
-    }
-    put_part(row, k, from, w.value);
-    numbers_into(text, w.next, lists, rows::index(from), rows::index(w.value))
 }
 
-// A list of points, its count in coordinates.
-fn points_into(
-    text: &[u8],
-    at: usize,
-    row: &mut [u64],
-    reals: &mut [f64],
-    k: usize,
-    from: u64,
-) -> usize {
-    let w = number_at(text, at);
-    if 70 < w.value {
-        put(row, 0, 0);
-        return w.next;
+impl<'a> Words<'a> {
+    fn word(&mut self) -> &'a [u8] {
+        let word = word_at(self.text, self.at);
+        self.at = word.next;
+        word.value
     }
-    let n = w.value * 3;
-    put_part(row, k, from, n);
-    reals_into(text, w.next, reals, rows::index(from), rows::index(n))
-}
 
-// A placement: its kind into word `kind` of the row, its measure into the pool, the place of given points into word `points`.
-fn placement_into(
-    text: &[u8],
-    at: usize,
-    row: &mut [u64],
-    reals: &mut [f64],
-    kind: usize,
-    points: usize,
-) -> usize {
-    let w = case_at(text, at, Field::Placement);
-    put(row, kind, w.value);
-    if w.value == 2 {
-        return points_into(text, w.next, row, reals, points, 2);
+    fn value<T: Said>(&mut self) -> T {
+        let Word { value, next } = T::said(self.text, self.at);
+        self.at = next;
+        value
     }
-    let d = double_at(text, w.next);
-    put_real(reals, 0, d.value);
-    d.next
-}
 
-fn line_into(text: &[u8], at: usize, row: &mut [u64], lists: &mut [u64], reals: &mut [f64]) {
-    put(row, 0, 1);
-    let placement = list_into(text, at, row, lists, 1, 0);
-    let rule = placement_into(text, placement, row, reals, 3, 6);
-    let w = case_at(text, rule, Field::Rule);
-    put(row, 4, w.value);
-}
+    // A case by its number or by its word.
+    fn case(&mut self, names: &[&[u8]]) -> Option<u64> {
+        let first = self.text.get(self.at);
+        if first.is_some_and(|b| b.is_ascii_digit()) {
+            return Some(self.value());
+        }
+        let word = self.word();
+        let case = names.iter().position(|name| *name == word)?;
+        Some(case as u64)
+    }
 
-// A light's line: the existing one's number, or a new one's placement.
-fn choice_into(text: &[u8], at: usize, row: &mut [u64], reals: &mut [f64]) -> usize {
-    let w = case_at(text, at, Field::Choice);
-    put(row, 3, w.value);
-    if w.value == 1 {
-        let line = number_at(text, w.next);
-        put(row, 4, line.value);
-        return line.next;
-    }
-    if w.value == 2 {
-        return placement_into(text, w.next, row, reals, 5, 22);
-    }
-    w.next
-}
-
-fn housing_into(text: &[u8], at: usize, row: &mut [u64], reals: &mut [f64]) -> usize {
-    let w = case_at(text, at, Field::Given);
-    put(row, 6, w.value);
-    if w.value == 0 {
-        return w.next;
-    }
-    points_into(text, w.next, row, reals, 24, 212)
-}
-
-fn height_into(text: &[u8], at: usize, row: &mut [u64], reals: &mut [f64]) -> usize {
-    let w = case_at(text, at, Field::Given);
-    put(row, 7, w.value);
-    if w.value == 0 {
-        return w.next;
-    }
-    let d = double_at(text, w.next);
-    put_real(reals, 1, d.value);
-    put(row, 21, 1);
-    d.next
-}
-
-// Lamp i: its point into the pool; colour and arrow of the first four into the row, which has none of the others.
-fn lamp_into(text: &[u8], at: usize, row: &mut [u64], reals: &mut [f64], i: u64) -> usize
-    requires { i < 12 }
-{
-    let colour = reals_into(text, at, reals, rows::index(422 + i * 3), 3);
-    let c = number_at(text, colour);
-    let a = number_at(text, c.next);
-    if i < 4 {
-        put_part(row, rows::index(10 + i * 2), c.value, a.value);
-    }
-    a.next
-}
-
-// The lamps, their count in coordinates. More than there is room for make no call.
-fn lamps_into(text: &[u8], at: usize, row: &mut [u64], reals: &mut [f64]) -> usize {
-    let given = case_at(text, at, Field::Given);
-    put(row, 9, given.value);
-    if given.value == 0 {
-        return given.next;
-    }
-    let count = number_at(text, given.next);
-    let n = count.value;
-    if 12 < n {
-        put(row, 0, 0);
-        return count.next;
-    }
-    put_part(row, 26, 422, n * 3);
-    let mut next = count.next;
-    let mut i = 0u64;
-    while i < n {
-        next = lamp_into(text, next, row, reals, i);
-        i += 1;
-    }
-    next
-}
-
-fn group_into(text: &[u8], at: usize, row: &mut [u64]) {
-    let w = case_at(text, at, Field::Given);
-    put(row, 18, w.value);
-    if w.value != 0 {
-        let group = number_at(text, w.next);
-        put(row, 19, group.value);
+    // Values into a pool, from an index on.
+    fn values_into<T: Said>(&mut self, pool: &mut [T], from: usize, n: usize)
+        requires { from + n ≤ 458 }
+    {
+        for i in from..from + n {
+            put(pool, i, self.value());
+        }
     }
 }
 
-// The signal of a light: its housing, height, kind and lamps.
-fn signal_into(text: &[u8], at: usize, row: &mut [u64], reals: &mut [f64]) -> usize {
-    let height = housing_into(text, at, row, reals);
-    let kind = height_into(text, height, row, reals);
-    let w = number_at(text, kind);
-    put(row, 8, w.value);
-    lamps_into(text, w.next, row, reals)
+fn put<T: Drop>(t: &mut [T], i: usize, value: T) {
+    if let Some(slot) = t.get_mut(i) {
+        *slot = value;
+    }
 }
 
-fn light_into(text: &[u8], at: usize, row: &mut [u64], lists: &mut [u64], reals: &mut [f64]) {
-    put(row, 0, 2);
-    let choice = list_into(text, at, row, lists, 1, 0);
-    let housing = choice_into(text, choice, row, reals);
-    let group = signal_into(text, housing, row, reals);
-    group_into(text, group, row);
+// A request that is read, with its row and its pools.
+#[derive(Drop)]
+struct Draft<'a> {
+    words: Words<'a>,
+    row: &'a mut [u64],
+    lists: &'a mut [u64],
+    reals: &'a mut [f64],
 }
 
-fn links_into(text: &[u8], at: usize, row: &mut [u64], lists: &mut [u64]) {
-    put(row, 0, 3);
-    let rule = number_at(text, at);
-    put(row, 3, rule.value);
-    let crosswalks = list_into(text, rule.next, row, lists, 1, 0);
-    let lines = list_into(text, crosswalks, row, lists, 4, 32);
-    list_into(text, lines, row, lists, 6, 64);
+impl Draft<'_> {
+    // A number into word k of the row.
+    fn number(&mut self, k: usize) {
+        put(self.row, k, self.words.value());
+    }
+
+    // A real into the pool.
+    fn real(&mut self, i: usize) {
+        put(self.reals, i, self.words.value());
+    }
+
+    // A case into word k of the row.
+    fn case(&mut self, k: usize, names: &[&[u8]]) -> u64 {
+        let case = self.words.case(names).unwrap_or(NO_CASE);
+        put(self.row, k, case);
+        case
+    }
+
+    // Whether what may be missing is given.
+    fn given(&mut self, k: usize) -> bool {
+        self.case(k, &GIVEN) != 0
+    }
+
+    // A request with more than there is room for makes no call.
+    fn no_call(&mut self) {
+        put(self.row, 0, 0);
+    }
+
+    // Place and count of a list, into words k and k + 1 of the row.
+    fn part(&mut self, k: usize, place: usize, count: usize)
+        requires { k < 28 }
+    {
+        put(self.row, k, place as u64);
+        put(self.row, k + 1, count as u64);
+    }
+
+    fn list(&mut self, k: usize, from: usize)
+        requires { (k < 28) × (from ≤ 64) }
+    {
+        let n: u64 = self.words.value();
+        if n > 32 {
+            return self.no_call();
+        }
+        let n = n as usize;
+        self.part(k, from, n);
+        self.words.values_into(self.lists, from, n);
+    }
+
+    // A list of points, its count in coordinates.
+    fn points(&mut self, k: usize, from: usize)
+        requires { (k < 28) × (from ≤ 212) }
+    {
+        let n: u64 = self.words.value();
+        if n > 70 {
+            return self.no_call();
+        }
+        let n = n as usize * 3;
+        self.part(k, from, n);
+        self.words.values_into(self.reals, from, n);
+    }
+
+    // A placement: its kind into word `kind` of the row, its measure into the pool, the place of given points into word `points`.
+    fn placement(&mut self, kind: usize, points: usize)
+        requires { points < 28 }
+    {
+        match self.case(kind, &PLACEMENTS) {
+            2 => self.points(points, 2),
+            _ => self.real(0),
+        }
+    }
+
+    fn line(&mut self) {
+        put(self.row, 0, 1);
+        self.list(1, 0);
+        self.placement(3, 6);
+        self.case(4, &RULES);
+    }
+
+    // A light's line: the existing one's number, or a new one's placement.
+    fn choice(&mut self) {
+        match self.case(3, &CHOICES) {
+            1 => self.number(4),
+            2 => self.placement(5, 22),
+            _ => {}
+        }
+    }
+
+    fn housing(&mut self) {
+        if self.given(6) {
+            self.points(24, 212);
+        }
+    }
+
+    fn height(&mut self) {
+        if self.given(7) {
+            self.real(1);
+            put(self.row, 21, 1);
+        }
+    }
+
+    // Lamp i: its point into the pool; colour and arrow of the first four into the row, which has none of the others.
+    fn lamp(&mut self, i: usize)
+        requires { i < 12 }
+    {
+        self.words.values_into(self.reals, 422 + i * 3, 3);
+        let colour = self.words.value();
+        let arrow = self.words.value();
+        if i < 4 {
+            put(self.row, 10 + i * 2, colour);
+            put(self.row, 11 + i * 2, arrow);
+        }
+    }
+
+    // The lamps, their count in coordinates.
+    fn lamps(&mut self) {
+        if !self.given(9) {
+            return;
+        }
+        let n: u64 = self.words.value();
+        if n > 12 {
+            return self.no_call();
+        }
+        let n = n as usize;
+        self.part(26, 422, n * 3);
+        for i in 0..n {
+            self.lamp(i);
+        }
+    }
+
+    fn group(&mut self) {
+        if self.given(18) {
+            self.number(19);
+        }
+    }
+
+    // A light: its line, then the signal's housing, height, kind and lamps, then its group.
+    fn light(&mut self) {
+        put(self.row, 0, 2);
+        self.list(1, 0);
+        self.choice();
+        self.housing();
+        self.height();
+        self.number(8);
+        self.lamps();
+        self.group();
+    }
+
+    fn links(&mut self) {
+        put(self.row, 0, 3);
+        self.number(3);
+        self.list(1, 0);
+        self.list(4, 32);
+        self.list(6, 64);
+    }
 }
 
 // The request that stands from `at` on, into a row and pools of zeros.
 pub fn request_into(text: &[u8], at: usize, row: &mut [u64], lists: &mut [u64], reals: &mut [f64]) {
-    let w = name_at(text, at);
-    let name = w.value;
-    // `line`, `light`, `links`
+    let mut words = Words { text, at };
+    let name = words.word();
+    let mut draft = Draft {
+        words,
+        row,
+        lists,
+        reals,
+    };
     match name {
-        0x6C696E65 => line_into(text, w.next, row, lists, reals),
-        0x6C69676874 => light_into(text, w.next, row, lists, reals),
-        0x6C696E6B73 => links_into(text, w.next, row, lists),
+        b"line" => draft.line(),
+        b"light" => draft.light(),
+        b"links" => draft.links(),
         _ => {}
     }
 }
