@@ -5,16 +5,16 @@
 pub mod sets;
 
 pub fn get(s: &[u8], i: usize) -> u8 {
-    if i < s.len() { s[i] } else { 0 }
+    s.get(i).copied().unwrap_or(0)
 }
 
 // A byte; the place after it.
 pub fn put(out: &mut [u8], at: usize, b: u8) -> usize {
-    if at < out.len() {
-        out[at] = b;
-        return at + 1;
-    }
-    at
+    let Some(byte) = out.get_mut(at) else {
+        return at;
+    };
+    *byte = b;
+    at + 1
 }
 
 pub fn low(n: u64) -> u8 {
@@ -24,16 +24,18 @@ pub fn low(n: u64) -> u8 {
 // The bytes of s from a up to e.
 pub fn part(out: &mut [u8], at: usize, s: &[u8], a: usize, e: usize) -> usize {
     let mut next = at;
-    let mut i = a;
-    while i < e {
+    for i in a..e {
         next = put(out, next, get(s, i));
-        i += 1;
     }
     next
 }
 
 pub fn bytes(out: &mut [u8], at: usize, s: &[u8]) -> usize {
-    part(out, at, s, 0, s.len())
+    let mut next = at;
+    for b in s {
+        next = put(out, next, *b);
+    }
+    next
 }
 
 // A whole number in groups of seven bits.
@@ -49,15 +51,7 @@ pub fn number(out: &mut [u8], at: usize, n: u64) -> usize {
 
 // Eight bytes, low byte first.
 pub fn eight(out: &mut [u8], at: usize, bits: u64) -> usize {
-    let mut rest = bits;
-    let mut next = at;
-    let mut k = 0u64;
-    while k < 8 {
-        next = put(out, next, low(rest));
-        rest /= 256;
-        k += 1;
-    }
-    next
+    bytes(out, at, &bits.to_le_bytes())
 }
 
 // A coordinate on the map, another for each seed.
@@ -72,15 +66,31 @@ fn point(out: &mut [u8], at: usize, seed: u64) -> usize {
     coordinate(out, y, (seed << 2) | 2)
 }
 
-// A polyline of n points.
-pub fn points(out: &mut [u8], at: usize, n: u64, seed: u64) -> usize {
+// A list: its count, then the items, each by its index.
+pub(crate) fn items<F: Fn(&mut [u8], usize, u64) -> usize>(
+    out: &mut [u8],
+    at: usize,
+    n: u64,
+    item: F,
+) -> usize
+    requires { F.IsAlwaysCallable item }
+{
     let mut next = number(out, at, n);
-    let mut i = 0u64;
-    while i < n {
-        next = point(out, next, std::num::wrapping_add_u64(seed << 6, i));
-        i += 1;
+    for i in 0..n {
+        next = item(out, next, i);
     }
     next
+}
+
+// A polyline of n points.
+pub fn points(out: &mut [u8], at: usize, n: u64, seed: u64) -> usize {
+    let first = seed << 6;
+    items(
+        out,
+        at,
+        n,
+        |out, next, i| point(out, next, first.wrapping_add(i)),
+    )
 }
 
 // The same as an option; none where there are no points.
@@ -94,13 +104,12 @@ fn option_points(out: &mut [u8], at: usize, n: u64, seed: u64) -> usize {
 
 // A list of n numbers, from `first` on.
 pub fn list(out: &mut [u8], at: usize, n: u64, first: u64) -> usize {
-    let mut next = number(out, at, n);
-    let mut i = 0u64;
-    while i < n {
-        next = number(out, next, std::num::wrapping_add_u64(first, i));
-        i += 1;
-    }
-    next
+    items(
+        out,
+        at,
+        n,
+        |out, next, i| number(out, next, first.wrapping_add(i)),
+    )
 }
 
 // A bulb of colour n % 4 and arrow n % 9.
@@ -111,13 +120,7 @@ fn bulb(out: &mut [u8], at: usize, n: u64) -> usize {
 }
 
 pub fn bulbs(out: &mut [u8], at: usize, n: u64) -> usize {
-    let mut next = number(out, at, n);
-    let mut i = 0u64;
-    while i < n {
-        next = bulb(out, next, i);
-        i += 1;
-    }
-    next
+    items(out, at, n, bulb)
 }
 
 // ---- records of number n. With p points or entries each where p is not 0, else as short as can be.
@@ -200,26 +203,20 @@ fn record(out: &mut [u8], at: usize, k: u64, n: u64, p: u64) -> usize {
 
 // A table of so many records, their numbers from `first` on.
 pub fn table(out: &mut [u8], at: usize, k: u64, count: u64, first: u64, p: u64) -> usize {
-    let mut next = number(out, at, count);
-    let mut i = 0u64;
-    while i < count {
-        next = record(out, next, k, std::num::wrapping_add_u64(first, i), p);
-        i += 1;
-    }
-    next
-}
-
-fn count_of(t: u64, k: u64, count: u64) -> u64 {
-    if t == k { count } else { 0 }
+    items(
+        out,
+        at,
+        count,
+        |out, next, i| record(out, next, k, first.wrapping_add(i), p),
+    )
 }
 
 // A map file with so many short records of kind k, and none else.
 pub fn one_table(out: &mut [u8], k: u64, count: u64) -> usize {
     let mut next = number(out, 0, 1000);
-    let mut t = 0u64;
-    while t < 6 {
-        next = table(out, next, t, count_of(t, k, count), 1, 0);
-        t += 1;
+    for t in 0..6 {
+        let n = if t == k { count } else { 0 };
+        next = table(out, next, t, n, 1, 0);
     }
     next
 }

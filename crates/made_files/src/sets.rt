@@ -1,16 +1,12 @@
 // Set files made byte by byte.
-use crate::{bytes, number};
+use crate::{bytes, items, number};
 
 // A list of so many entries, rising by kind, then number; numbers from `first` on.
 fn entries(out: &mut [u8], at: usize, count: u64, first: u64) -> usize {
-    let mut next = number(out, at, count);
-    let mut i = 0u64;
-    while i < count {
-        next = number(out, next, 1 + i / 65);
-        next = number(out, next, std::num::wrapping_add_u64(first, i));
-        i += 1;
-    }
-    next
+    items(out, at, count, |out, at, i| {
+        let next = number(out, at, 1 + i / 65);
+        number(out, next, first.wrapping_add(i))
+    })
 }
 
 // A warning of code 1 + n % 4, about kind n % 9; kind 0 stands alone.
@@ -24,13 +20,7 @@ fn warning(out: &mut [u8], at: usize, n: u64) -> usize {
 }
 
 fn warnings(out: &mut [u8], at: usize, count: u64) -> usize {
-    let mut next = number(out, at, count);
-    let mut i = 0u64;
-    while i < count {
-        next = warning(out, next, i);
-        i += 1;
-    }
-    next
+    items(out, at, count, warning)
 }
 
 // The set file with lists of so many entries and so many warnings.
