@@ -1,210 +1,162 @@
 // Lines behind `=`: an answer that is expected, beside the one that came.
-use crate::state::State;
-use crate::{notation, state};
+use crate::notation::{Line, print_place};
+use crate::state::{Due, State};
 use call_list::Reply;
 use files::Written;
-use printing::{STDOUT_FILENO, say, word};
-use request_calls::{expect_ends, expect_set, line_over};
-use sample_text::{expect_number, name_at};
+use place::{EndName, MaybeEnds};
+use request_calls::{expect_ends, expect_set, line_over, refused_as};
+use sample_text::expect_number;
+use std::{fmt, io};
+
+// Where an expectation's name stands.
+const NAME: usize = 2;
 
 // The ends behind the set's bytes; a line that says nothing of them expects none in particular.
 fn as_named(text: &[u8], at: usize, r: Reply) -> bool {
-    if line_over(text, at) {
-        return true;
+    line_over(text, at) || line_over(text, expect_ends(text, at, r))
+}
+
+// Where the word after `done` starts, if that is the word that stands there.
+fn after_done(line: Line<'_>, at: usize) -> Option<usize> {
+    match line.word(at) {
+        b"done" => Some(at.saturating_add(5)),
+        _ => None,
     }
-    line_over(text, expect_ends(text, at, r))
 }
 
 // `done`, the number of the record, the set's bytes and the ends, or the refusal.
-fn as_answered(text: &[u8], at: usize, r: Reply, set: &[u64], buffer: &mut [u8]) -> bool {
+fn as_answered(line: Line<'_>, at: usize, r: Reply, set: &[u64], buffer: &mut [u8]) -> bool {
     if r.what != 0 {
-        return request_calls::refused_as(text, at, r);
+        return refused_as(line.text, at, r);
     }
-    let w = name_at(text, at);
-    if w.value != 0x646F6E65 {
+    let Some(number) = after_done(line, at) else {
         return false;
-    }
-    let a = expect_number(text, w.next, r.number);
-    as_named(text, expect_set(text, a, set, buffer), r)
-}
-
-fn as_opened(text: &[u8], at: usize) -> bool {
-    let w = name_at(text, at);
-    if w.value != 0x646F6E65 {
-        return false;
-    }
-    line_over(text, w.next)
+    };
+    let bytes = expect_number(line.text, number, r.number);
+    as_named(line.text, expect_set(line.text, bytes, set, buffer), r)
 }
 
 // Whether what came is what stands from `at` on.
-fn as_written(
-    text: &[u8],
-    at: usize,
-    s: State,
-    fold: &[u64],
-    set: &[u64],
-    buffer: &mut [u8],
-) -> bool {
-    let r = s.reply;
-    let due = s.due;
-    match due {
-        1 | 4 => as_answered(text, at, r, set, buffer),
-        2 => line_over(text, expect_set(text, at, fold, buffer)),
-        3 => as_opened(text, at),
-        _ => false,
+fn as_written(line: Line<'_>, at: usize, state: &mut State) -> bool {
+    match state.due {
+        Due::Answer(r) | Due::Refused(r) => as_answered(line, at, r, &state.set, &mut state.buffer),
+        Due::Fold => line_over(
+            line.text,
+            expect_set(line.text, at, &state.fold, &mut state.buffer),
+        ),
+        Due::Opened => after_done(line, at).is_some_and(|next| line_over(line.text, next)),
+        Due::Nothing | Due::Unread => false,
     }
 }
 
-fn in_hex(bytes: &[u8]) {
-    let mut i = 0;
-    while i < bytes.len() {
-        io::print_hex(STDOUT_FILENO, sample_text::letter(bytes[i]), 2);
-        i += 1;
-    }
-}
+// Bytes in pairs of hexadecimal digits.
+#[derive(Clone, Copy)]
+struct Hex<'a>(&'a [u8]);
 
-fn start_in_hex(buffer: &[u8], n: usize) {
-    if n <= buffer.len() {
-        in_hex(&buffer[..n]);
+impl fmt::Display for Hex<'_> {
+    fn fmt<W: fmt::Write>(&self, f: &mut fmt::Formatter<W>) -> fmt::Result {
+        for b in self.0 {
+            write!(f, "{b:02x}")?;
+        }
+        Ok(())
     }
 }
 
 // A set's file.
-fn set_in_hex(set: &[u64], buffer: &mut [u8]) {
-    let w = files::write_changes(set, buffer);
-    match w {
-        Written::Done(n) => start_in_hex(buffer, n),
-        Written::Refused(_) => {}
+fn print_set(rt: &impl Print, set: &[u64], buffer: &mut [u8]) -> io::Result<()> {
+    match files::write_changes(set, buffer) {
+        Written::Done(n) => print!(rt; "{}", Hex(buffer.get(..n).unwrap_or(&[]))),
+        Written::Refused(_) => Ok(()),
     }
 }
 
 // A refusal as an expectation has it.
-fn refusal(r: Reply) {
-    word(b"refused ", r.what);
-    if r.what == 1 {
-        return;
-    }
-    if r.what < 9 {
-        word(b" ", r.detail);
-    }
-    if r.what == 2 {
-        word(b" ", r.second);
+fn print_refusal(rt: &impl Print, r: Reply) -> io::Result<()> {
+    match r.what {
+        2 => print!(rt; "refused 2 {} {}", r.detail, r.second),
+        3..9 => print!(rt; "refused {} {}", r.what, r.detail),
+        _ => print!(rt; "refused {}", r.what),
     }
 }
 
-fn ends(r: Reply) {
-    let w = call_list::reply_words(r);
-    if w[4] == 0 {
-        say(b" -");
-        return;
-    }
-    word(b" + ", w[5]);
-    word(b" ", w[6]);
-    word(b" ", w[7]);
-    word(b" ", w[8]);
+fn print_end(rt: &impl Print, end: EndName) -> io::Result<()> {
+    print!(rt; " {} {}", end.lane, end.side as u8)
 }
 
-fn answer(r: Reply, set: &[u64], buffer: &mut [u8]) {
+fn print_ends(rt: &impl Print, ends: MaybeEnds) -> io::Result<()> {
+    let MaybeEnds::At(names) = ends else {
+        return print!(rt; " -");
+    };
+    print!(rt; " +")?;
+    print_end(rt, names.left)?;
+    print_end(rt, names.right)
+}
+
+fn print_answer(rt: &impl Print, r: Reply, set: &[u64], buffer: &mut [u8]) -> io::Result<()> {
     if r.what != 0 {
-        refusal(r);
-        return;
+        return print_refusal(rt, r);
     }
-    word(b"done ", r.number);
-    say(b" ");
-    set_in_hex(set, buffer);
-    ends(r);
+    print!(rt; "done {} ", r.number)?;
+    print_set(rt, set, buffer)?;
+    print_ends(rt, r.ends)
 }
 
 // What came, in the notation of expectations.
-fn came(s: State, fold: &[u64], set: &[u64], buffer: &mut [u8]) {
-    let r = s.reply;
-    let due = s.due;
-    match due {
-        1 | 4 => answer(r, set, buffer),
-        2 => set_in_hex(fold, buffer),
-        3 => say(b"done"),
-        _ => say(b"no answer"),
+fn print_came(rt: &impl Print, state: &mut State) -> io::Result<()> {
+    match state.due {
+        Due::Answer(r) | Due::Refused(r) => print_answer(rt, r, &state.set, &mut state.buffer),
+        Due::Fold => print_set(rt, &state.fold, &mut state.buffer),
+        Due::Opened => print!(rt; "done"),
+        Due::Nothing | Due::Unread => print!(rt; "no answer"),
     }
 }
 
-// The same as a line, where it is not what was expected.
-fn say_came(s: State, fold: &[u64], set: &[u64], buffer: &mut [u8], yes: bool) {
-    if yes {
-        return;
+// An expectation that was not met, beside what came.
+fn print_unmet(rt: &impl Print, line: Line<'_>, state: &mut State) -> io::Result<()> {
+    let name = line.word(NAME);
+    print!(rt; "  ")?;
+    print_place(rt, line)?;
+    rt.write_all(name)?;
+    print!(rt; " NOT AS EXPECTED\n    expected: ")?;
+    match line.rest(after(name)) {
+        [] => println!(rt; "nothing")?,
+        answer => rt.write_all(answer)?,
     }
-    say(b"    came: ");
-    came(s, fold, set, buffer);
-    say(b"\n");
+    print!(rt; "    came: ")?;
+    print_came(rt, state)?;
+    println!(rt)
 }
 
-// A part of the text.
-fn part(text: &[u8], from: usize, to: usize) {
-    if to <= text.len() {
-        if from < to {
-            say(&text[from..to]);
-        }
-    }
+fn print_met(rt: &impl Print, line: Line<'_>) -> io::Result<()> {
+    print!(rt; "  ")?;
+    rt.write_all(line.word(NAME))?;
+    println!(rt; " as expected")
 }
 
-// The expectation whose name stands from `name` on, up to the line's end, and whether it was met.
-fn said(text: &[u8], name: usize, end: usize, s: State, yes: bool) {
-    let w = name_at(text, name);
-    say(b"  ");
-    if !yes {
-        notation::at_line(s.line);
-    }
-    part(text, name, std::num::wrapping_sub_usize(w.next, 1));
-    if yes {
-        say(b" as expected\n");
-        return;
-    }
-    say(b" NOT AS EXPECTED\n    expected: ");
-    if end <= w.next {
-        say(b"nothing\n");
-        return;
-    }
-    part(text, w.next, end);
-}
-
-// Whether the expectation with this name is met; none is where nothing stands behind the name.
-fn met(
-    text: &[u8],
-    name: usize,
-    end: usize,
-    s: State,
-    fold: &[u64],
-    set: &[u64],
-    buffer: &mut [u8],
-) -> bool {
-    let w = name_at(text, name);
-    if end <= w.next {
-        return false;
-    }
-    as_written(text, w.next, s, fold, set, buffer)
+// Where the answer behind a name starts.
+fn after(name: &[u8]) -> usize {
+    name.len().saturating_add(NAME + 1)
 }
 
 // The line behind `=`.
-pub fn expectation(
-    text: &[u8],
-    name: usize,
-    end: usize,
-    s: State,
-    fold: &[u64],
-    set: &[u64],
-    buffer: &mut [u8],
-) -> State {
-    if s.due == state::NOTHING {
-        notation::at_line(s.line);
-        say(b"an expectation, and no answer stands before it\n");
-        return state::judged(s, false);
+pub fn expectation(rt: &impl Print, line: Line<'_>, state: &mut State) -> io::Result<()> {
+    if let Due::Nothing = state.due {
+        state.judge(false);
+        print_place(rt, line)?;
+        return println!(rt; "an expectation, and no answer stands before it");
     }
-    if end <= std::num::wrapping_add_usize(name, 1) {
-        notation::at_line(s.line);
-        say(b"an expectation without a name\n");
-        return state::judged(s, false);
+    if line.bytes.len() <= NAME + 1 {
+        state.judge(false);
+        print_place(rt, line)?;
+        return println!(rt; "an expectation without a name");
     }
-    let yes = met(text, name, end, s, fold, set, buffer);
-    said(text, name, end, s, yes);
-    say_came(s, fold, set, buffer, yes);
-    state::judged(s, yes)
+    let answer = after(line.word(NAME));
+    let is_met = !line.rest(answer).is_empty() && as_written(line, answer, state);
+    if is_met {
+        print_met(rt, line)?;
+    } else {
+        print_unmet(rt, line, state)?;
+    }
+    state.judge(is_met);
+    Ok(())
 }

@@ -3,452 +3,313 @@
 // running fold, the tally and the map. Where an answer is expected, whether it came. The last line is `ok`, or how many did not.
 #![tactic(auto)]
 
-ghost use Rattle.std.specs.Prelude.{◌≤◌, length};
-
 mod expected;
 mod notation;
 mod state;
 
 use call_list::Reply;
-use changes::Tally;
-use printing::{STDOUT_FILENO, say, word};
-use sample_text::{line_end, name_at};
-use state::State;
+use notation::{Command, Line, print_blank, print_fault, print_place, print_quoted};
+use place::{EndName, LaneSide, MaybeEnds};
+use printing::answers::{Answer, End, Refusal, Side};
+use printing::map::Map;
+use printing::requests::Request;
+use printing::sets::{ChangeSet, Tally};
+use printing::{Entry, Kind};
+use state::{Due, State};
+use std::alloc::Global;
 use std::fs::File;
-use std::io::{Error, ErrorKind, Read};
+use std::io;
+use std::io::{ErrorKind, Read};
+use std::rt::Files;
 
-// The rest of a line, with its end.
-fn say_rest(text: &[u8], at: usize) {
-    if at < text.len() {
-        let next = line_end(text, at);
-        io::write_all(STDOUT_FILENO, &text[at..next]);
-    }
+// How many bytes a file may have.
+const MOST: usize = 262144;
+
+// The rest of a line, with its end. Behind a `say` with no blank stands the next line.
+fn say(rt: &impl Print, line: Line<'_>) -> io::Result<()> {
+    let behind = line.text.get(4..).unwrap_or(&[]);
+    let rest = behind.split_inclusive(|b| *b == b'\n').next();
+    rt.write_all(rest.unwrap_or(behind))
 }
 
 // The request in words.
-fn say_request(text: &[u8], at: usize) {
+fn print_request(rt: &impl Print, line: Line<'_>) -> io::Result<()> {
     let mut row = [0u64; requests::ROW];
     let mut lists = [0u64; requests::LISTS];
     let mut reals = [0.0; requests::REALS];
-    requests::request_into(text, at, &mut row, &mut lists, &mut reals);
-    printing::requests::request(&row, &lists, &reals);
-}
-
-// Whether the line from `at` to `end` is in the notation; if not, it is said.
-fn well_formed(text: &[u8], at: usize, end: usize, name: u64, no: u64) -> bool {
-    let w = name_at(text, at);
-    if text.len() < end {
-        return false;
-    }
-    if end < at {
-        return false;
-    }
-    notation::well_formed(
-        &text[at..end],
-        name,
-        std::num::wrapping_sub_usize(w.next, at),
-        no,
-    )
+    requests::request_into(line.text, 0, &mut row, &mut lists, &mut reals);
+    let request = Request {
+        row: &row,
+        lists: &lists,
+        reals: &reals,
+    };
+    println!(rt; "{request}")
 }
 
 // A line that wants a map, and none is open.
-fn not_carried_out(s: State, due: u64) -> State {
-    say(b"  ");
-    notation::at_line(s.line);
-    say(b"not carried out, no map is open\n");
-    state::noted(s, due, 12)
+fn print_not_open(rt: &impl Print, line: Line<'_>) -> io::Result<()> {
+    print!(rt; "  ")?;
+    print_place(rt, line)?;
+    println!(rt; "not carried out, no map is open")
 }
 
-// The kind of the record that an edit answers with.
-fn kind(name: u64) -> u64 {
-    match name {
-        0x6C696E65 => 5,
-        0x6C69676874 => 6,
-        _ => 8,
+// An edit's answer in words; it answers with a record of this kind. Numbers above the refusals' stand for no call.
+fn in_words(kind: Kind, r: Reply) -> Answer {
+    match r.what {
+        0 => Answer::Done(Entry {
+            kind,
+            number: r.number,
+        }),
+        1..15 => Answer::Refused(Refusal {
+            number: r.what,
+            detail: r.detail,
+            second: r.second,
+        }),
+        _ => Answer::NoCall,
+    }
+}
+
+fn end(name: EndName) -> End {
+    End {
+        lane: name.lane,
+        side: match name.side {
+            LaneSide::Left => Side::Left,
+            LaneSide::Right => Side::Right,
+        },
     }
 }
 
 // The ends of a line, where they are named.
-fn say_ends(r: Reply) {
-    let w = call_list::reply_words(r);
-    if w[4] == 1 {
-        printing::ends(w[5], w[6], w[7], w[8]);
-    }
+fn print_ends(rt: &impl Print, ends: MaybeEnds) -> io::Result<()> {
+    let MaybeEnds::At(names) = ends else {
+        return Ok(());
+    };
+    println!(rt; "  left end: {}", end(names.left))?;
+    println!(rt; "  right end: {}", end(names.right))
 }
 
-fn say_answer(name: u64, r: Reply, set: &[u64]) {
-    printing::answer(kind(name), r.what, r.number, r.detail, r.second);
-    if r.what == 0 {
-        say_ends(r);
-        printing::sets::set(set);
-    }
-}
-
-// After an edit. 255 stands for no call, whatever number above the refusals' the answer has.
-fn edited(s: State, r: Reply, tally: Tally) -> State {
-    if r.what < 15 {
-        return state::answered(s, state::ANSWER, r, tally);
-    }
-    say(b"    ");
-    notation::at_line(s.line);
-    say(b"a number is none of its cases, or a list is too long\n");
-    state::answered(s, state::REFUSED, request_calls::reply(255), tally)
-}
-
-fn edit(
-    text: &[u8],
-    at: usize,
-    name: u64,
-    words: &mut [u64],
-    coords: &mut [f64],
-    fold: &mut [u64],
-    set: &mut [u64],
-    s: State,
-) -> State {
-    let tally = s.tally;
-    let c = request_calls::carry(text, at, words, coords, fold, tally, set);
-    let r = c.reply;
-    let after = c.tally;
-    say_answer(name, r, set);
-    edited(s, r, after)
-}
-
-// After a map file was handed over.
-fn opened(s: State, r: Reply, tally: Tally) -> State {
-    if r.what == 0 {
-        return state::answered(state::opened(s, true), state::OPENED, r, tally);
-    }
-    notation::at_line(s.line);
-    say(
-        b"no map: the file is refused (12, bad map), and nothing more is carried out up to the next map\n",
+// An edit, carried out.
+fn edit(rt: &impl Print, line: Line<'_>, kind: Kind, state: &mut State) -> io::Result<()> {
+    let carried = request_calls::carry(
+        line.text,
+        0,
+        &mut state.words,
+        &mut state.coords,
+        &mut state.fold,
+        state.tally,
+        &mut state.set,
     );
-    state::answered(s, state::REFUSED, r, tally)
+    let r = carried.reply;
+    state.tally = carried.tally;
+    state.due = Due::Answer(r);
+    let answer = in_words(kind, r);
+    println!(rt; "{answer}")?;
+    match answer {
+        Answer::Done(_) => {
+            print_ends(rt, r.ends)?;
+            print!(rt; "{}", ChangeSet(&state.set))
+        }
+        Answer::Refused(_) => Ok(()),
+        Answer::NoCall => {
+            state.due = Due::Refused(request_calls::reply(255));
+            print!(rt; "    ")?;
+            print_place(rt, line)?;
+            println!(rt; "a number is none of its cases, or a list is too long")
+        }
+    }
 }
 
-fn open(
-    text: &[u8],
-    at: usize,
-    words: &mut [u64],
-    coords: &mut [f64],
-    fold: &mut [u64],
-    buffer: &mut [u8],
-    s: State,
-) -> State {
-    let tally = s.tally;
-    let c = request_calls::open(text, at, buffer, words, coords, fold, tally);
-    let r = c.reply;
-    let after = c.tally;
-    opened(s, r, after)
+fn edit_line(rt: &impl Print, line: Line<'_>, kind: Kind, state: &mut State) -> io::Result<()> {
+    print_request(rt, line)?;
+    if !state.is_open {
+        state.due = Due::Refused(request_calls::reply(12));
+        return print_not_open(rt, line);
+    }
+    edit(rt, line, kind, state)
+}
+
+// A map file, opened: a run begins.
+fn open(rt: &impl Print, line: Line<'_>, state: &mut State) -> io::Result<()> {
+    let carried = request_calls::open(
+        line.text,
+        4,
+        &mut state.buffer,
+        &mut state.words,
+        &mut state.coords,
+        &mut state.fold,
+        state.tally,
+    );
+    let r = carried.reply;
+    state.tally = carried.tally;
+    state.is_open = r.what == 0;
+    if state.is_open {
+        state.due = Due::Opened;
+        return Ok(());
+    }
+    state.due = Due::Refused(r);
+    print_place(rt, line)?;
+    println!(rt;
+        "no map: the file is refused (12, bad map), and nothing more is carried out up to the next map"
+    )
+}
+
+fn fold(rt: &impl Print, line: Line<'_>, state: &mut State) -> io::Result<()> {
+    println!(rt; "running fold")?;
+    if !state.is_open {
+        state.due = Due::Refused(request_calls::reply(12));
+        return print_not_open(rt, line);
+    }
+    state.due = Due::Fold;
+    print!(rt; "{}", ChangeSet(&state.fold))
 }
 
 // The running fold, the tally and the map.
-fn show(words: &[u64], coords: &[f64], fold: &[u64], s: State) {
-    let tally = s.tally;
-    say(b"running fold\n");
-    printing::sets::set(fold);
-    printing::sets::tally(tally.created, tally.modified, tally.deleted);
-    say(b"map\n");
-    printing::map::map(words, coords);
-}
-
-fn unread(s: State) -> State {
-    state::noted(s, state::UNREAD, 0)
+fn show(rt: &impl Print, line: Line<'_>, state: &mut State) -> io::Result<()> {
+    if !state.is_open {
+        state.due = Due::Unread;
+        println!(rt; "map")?;
+        return print_not_open(rt, line);
+    }
+    let tally = Tally {
+        created: state.tally.created,
+        modified: state.tally.modified,
+        deleted: state.tally.deleted,
+    };
+    let map = Map {
+        words: &state.words,
+        coords: &state.coords,
+    };
+    print!(rt;
+        "running fold\n{}{tally}\nmap\n{map}",
+        ChangeSet(&state.fold)
+    )
 }
 
 // A line whose first word is none of the words of the notation.
-fn unknown(text: &[u8], at: usize, s: State) -> State {
-    notation::at_line(s.line);
-    if at < text.len() {
-        let b = text[at];
-        if b <= 32 {
-            notation::blank(b);
-            return unread(s);
+fn print_unknown(rt: &impl Print, line: Line<'_>) -> io::Result<()> {
+    print_place(rt, line)?;
+    match line.bytes.first() {
+        Some(b) if *b <= b' ' => print_blank(rt, *b),
+        _ => {
+            print!(rt; "unknown word ")?;
+            print_quoted(rt, line, 0)?;
+            println!(rt)
         }
     }
-    say(b"unknown word ");
-    notation::quoted(text, at);
-    say(b"\n");
-    unread(s)
 }
 
-fn map_line(
-    text: &[u8],
-    at: usize,
-    words: &mut [u64],
-    coords: &mut [f64],
-    fold: &mut [u64],
-    buffer: &mut [u8],
-    s: State,
-    good: bool,
-) -> State {
-    if !good {
-        return unread(state::opened(s, false));
+fn carry_out(
+    rt: &impl Print,
+    command: Command,
+    line: Line<'_>,
+    state: &mut State,
+) -> io::Result<()> {
+    if command == Command::Map {
+        state.is_open = false;
     }
-    let w = name_at(text, at);
-    open(
-        text,
-        w.next,
-        words,
-        coords,
-        fold,
-        buffer,
-        state::opened(s, false),
-    )
+    if let Err(fault) = notation::check(command, line) {
+        state.due = Due::Unread;
+        return print_fault(rt, line, fault);
+    }
+    match command {
+        Command::Map => open(rt, line, state),
+        Command::Line => edit_line(rt, line, Kind::StopLine, state),
+        Command::Light => edit_line(rt, line, Kind::Signal, state),
+        Command::Links => edit_line(rt, line, Kind::Rule, state),
+        Command::Fold => fold(rt, line, state),
+        Command::Show => show(rt, line, state),
+    }
 }
 
-fn edit_line(
-    text: &[u8],
-    at: usize,
-    name: u64,
-    words: &mut [u64],
-    coords: &mut [f64],
-    fold: &mut [u64],
-    set: &mut [u64],
-    s: State,
-    good: bool,
-) -> State {
-    if !good {
-        return unread(s);
+// A line; an empty one and a note are passed over.
+fn carry_out_line(rt: &impl Print, line: Line<'_>, state: &mut State) -> io::Result<()> {
+    if let [b'\n' | b'#', ..] = line.bytes {
+        return Ok(());
     }
-    say_request(text, at);
-    if !s.open {
-        return not_carried_out(s, state::REFUSED);
+    let word = line.word(0);
+    if let b"=" = word {
+        return expected::expectation(rt, line, state);
     }
-    edit(text, at, name, words, coords, fold, set, s)
-}
-
-fn fold_line(fold: &[u64], s: State, good: bool) -> State {
-    if !good {
-        return unread(s);
+    state.settle();
+    if let b"say" = word {
+        return say(rt, line);
     }
-    say(b"running fold\n");
-    if !s.open {
-        return not_carried_out(s, state::REFUSED);
-    }
-    printing::sets::set(fold);
-    state::noted(s, state::FOLD, 0)
-}
-
-fn show_line(words: &[u64], coords: &[f64], fold: &[u64], s: State, good: bool) -> State {
-    if !good {
-        return unread(s);
-    }
-    if !s.open {
-        say(b"map\n");
-        return not_carried_out(s, state::UNREAD);
-    }
-    show(words, coords, fold, s);
-    s
-}
-
-// A line that is no expectation.
-fn asked(
-    text: &[u8],
-    at: usize,
-    end: usize,
-    words: &mut [u64],
-    coords: &mut [f64],
-    fold: &mut [u64],
-    set: &mut [u64],
-    buffer: &mut [u8],
-    s: State,
-) -> State {
-    let w = name_at(text, at);
-    let name = w.value;
-    match name {
-        0x736179 => {
-            say_rest(text, w.next);
-            return s;
+    match Command::named(word) {
+        Some(command) => carry_out(rt, command, line, state),
+        None => {
+            state.due = Due::Unread;
+            print_unknown(rt, line)
         }
-        0x6D6170 | 0x6C696E65 | 0x6C69676874 | 0x6C696E6B73 | 0x666F6C64 | 0x73686F77 => {}
-        _ => return unknown(text, at, s),
     }
-    let good = well_formed(text, at, end, name, s.line);
-    match name {
-        0x6D6170 => map_line(text, at, words, coords, fold, buffer, s, good),
-        0x666F6C64 => fold_line(fold, s, good),
-        0x73686F77 => show_line(words, coords, fold, s, good),
-        _ => edit_line(text, at, name, words, coords, fold, set, s, good),
-    }
-}
-
-// Whether a line is empty or a note.
-fn passed_over(text: &[u8], at: usize) -> bool {
-    if at < text.len() {
-        let b = text[at];
-        return b == 10 || b == b'#';
-    }
-    true
-}
-
-fn line(
-    text: &[u8],
-    at: usize,
-    end: usize,
-    words: &mut [u64],
-    coords: &mut [f64],
-    fold: &mut [u64],
-    set: &mut [u64],
-    buffer: &mut [u8],
-    before: State,
-) -> State {
-    let s = state::next_line(before);
-    if passed_over(text, at) {
-        return s;
-    }
-    let w = name_at(text, at);
-    if w.value == 0x3D {
-        return expected::expectation(text, w.next, end, s, fold, set, buffer);
-    }
-    asked(
-        text,
-        at,
-        end,
-        words,
-        coords,
-        fold,
-        set,
-        buffer,
-        state::settled(s),
-    )
-}
-
-fn lines(
-    text: &[u8],
-    words: &mut [u64],
-    coords: &mut [f64],
-    fold: &mut [u64],
-    set: &mut [u64],
-    buffer: &mut [u8],
-) -> u64 {
-    let mut s = state::start();
-    let mut at = 0;
-    while at < text.len() {
-        let next = line_end(text, at);
-        s = line(text, at, next, words, coords, fold, set, buffer, s);
-        at = next;
-    }
-    let last = state::settled(s);
-    last.wrong
 }
 
 // The lines of a text: how many answers were not as expected.
-fn play(text: &[u8]) -> u64 {
-    let mut words = [0u64; 13671];
-    let mut coords = [0.0; 105280];
-    let mut fold = [0u64; 3556];
-    let mut set = [0u64; 3556];
-    let mut buffer = [0u8; 262144];
-    lines(
-        text,
-        &mut words,
-        &mut coords,
-        &mut fold,
-        &mut set,
-        &mut buffer,
-    )
-}
-
-// The last line.
-fn verdict(wrong: u64) {
-    if wrong == 0 {
-        say(b"ok\n");
-    } else {
-        word(b"NOT AS EXPECTED: ", wrong);
-        say(b"\n");
+fn play(rt: &impl Print, alloc: Global, text: &[u8]) -> io::Result<u64> {
+    let mut state = State::new(alloc)?;
+    let mut rest = text;
+    for (number, bytes) in (1..=u64::MAX).zip(text.split_inclusive(|b| *b == b'\n')) {
+        let line = Line {
+            text: rest,
+            bytes,
+            number,
+        };
+        carry_out_line(rt, line, &mut state)?;
+        rest = rest.get(bytes.len()..).unwrap_or(&[]);
     }
+    state.settle();
+    Ok(state.wrong)
 }
 
 // A file that nothing can be carried out of.
-fn no_text(path: &[u8], why: &[u8]) -> u64 {
-    say(path);
-    say(why);
-    1
+fn no_text(rt: &impl Print, path: &str, why: &str) -> io::Result<u64> {
+    println!(rt; "{path}: {why}")?;
+    Ok(1)
 }
 
-// The n bytes that were read, and a line end where the last line has none: how many.
-fn with_line_end(text: &mut [u8], n: usize) -> usize {
-    if n == 0 {
-        return 0;
+// The bytes of a file, up to one more than it may have. What cannot be read ends the file.
+fn read(alloc: Global, file: impl Read + Drop) -> io::Result<Vec<u8>> {
+    let mut text = Vec::new(alloc);
+    match file.take(MOST as u64 + 1).read_to_end(&mut text) {
+        Err(why) if why.kind() == ErrorKind::OutOfMemory => Err(why),
+        _ => Ok(text),
     }
-    if text.len() <= n {
-        return n;
-    }
-    if text[n - 1] == 10 {
-        return n;
-    }
-    text[n] = 10;
-    n + 1
 }
 
-fn play_start(text: &[u8], n: usize) -> u64 {
-    if text.len() < n {
-        return 1;
+fn run(rt: &(impl Files + Print + AllocGlobal), path: &str) -> io::Result<u64> {
+    if path.is_empty() {
+        println!(rt; "name the file that is to be carried out: junctions FILE")?;
+        return Ok(1);
     }
-    play(&text[..n])
-}
-
-// The n bytes that were read of a file.
-fn carry_out(path: &[u8], text: &mut [u8], n: usize) -> u64 {
-    if n == 0 {
-        return no_text(path, b": the file is empty, or cannot be read\n");
-    }
-    if n == text.len() {
-        return no_text(
-            path,
-            b": the file is longer than 262144 bytes, and nothing of it is carried out\n",
-        );
-    }
-    let m = with_line_end(text, n);
-    play_start(text, m)
-}
-
-fn not_opened(path: &[u8], why: Error) -> u64 {
-    if why.kind() == ErrorKind::NotFound {
-        return no_text(path, b": there is no such file\n");
-    }
-    no_text(path, b": the file cannot be opened\n")
-}
-
-// The bytes of the file, up to the end of text or of the file: how many. What cannot be read ends the file.
-fn read_full(file: &mut File, text: &mut [u8]) -> usize
-    ensures { result ≤ length text.new }
-{
-    let mut n = 0;
-    while n < text.len() {
-        let more = file.read(&mut text[n..]).unwrap_or(0);
-        if more == 0 {
-            return n;
+    let file = match File::open(rt, path) {
+        Ok(file) => file,
+        Err(why) if why.kind() == ErrorKind::NotFound => {
+            return no_text(rt, path, "there is no such file");
         }
-        n += more;
+        Err(_) => return no_text(rt, path, "the file cannot be opened"),
+    };
+    let mut text = read(rt.alloc(), file)?;
+    if text.is_empty() {
+        return no_text(rt, path, "the file is empty, or cannot be read");
     }
-    n
-}
-
-// The file, in room for one byte more than it may have.
-fn read(path: &[u8], mut file: File) -> u64 {
-    let mut text = [0u8; 262145];
-    let n = read_full(&mut file, &mut text);
-    carry_out(path, &mut text, n)
-}
-
-fn run(rt: &HostRuntime, path: &str) -> u64 {
-    if path.len() == 0 {
+    if text.len() > MOST {
         return no_text(
-            path.as_bytes(),
-            b"name the file that is to be carried out: junctions FILE\n",
+            rt,
+            path,
+            "the file is longer than 262144 bytes, and nothing of it is carried out",
         );
     }
-    match File::open(rt, path) {
-        Ok(file) => read(path.as_bytes(), file),
-        Err(why) => not_opened(path.as_bytes(), why),
+    if !text.ends_with(b"\n") {
+        text.push(b'\n')?;
     }
+    play(rt, rt.alloc(), &text)
 }
 
-fn main(rt: HostRuntime) -> std::io::Result<()> {
+fn main(rt: HostRuntime) -> io::Result<()> {
     let path = std::env::args(&rt)?
         .nth(1)
         .unwrap_or(String::new(rt.alloc()));
-    verdict(run(&rt, path.as_str()));
-    Ok(())
+    match run(&rt, path.as_str())? {
+        0 => println!(rt; "ok"),
+        wrong => println!(rt; "NOT AS EXPECTED: {wrong}"),
+    }
 }

@@ -1,302 +1,282 @@
 // Whether a line of the input is in the notation of the requests, word by word, and what is wrong with it in words. The readers of
 // requests take any text; a line that they would read as something else than it says is found here first.
-use printing::{say, word};
+use std::{fmt, io, str};
 
-// A word that was read: its value, where the next one starts, and what is wrong, 0 for nothing; then `at` is where it stands.
+// A line: the text from its start to the end of all, its own bytes with the line end, and its number.
 #[derive(Clone, Copy)]
-pub struct Field {
-    pub value: u64,
+pub struct Line<'a> {
+    pub text: &'a [u8],
+    pub bytes: &'a [u8],
+    pub number: u64,
+}
+
+impl<'a> Line<'a> {
+    // The word that stands from there on, up to a blank or the line's end.
+    pub fn word(&self, at: usize) -> &'a [u8] {
+        word_of(self.bytes, at)
+    }
+
+    // What stands from there on, with the line's end.
+    pub fn rest(&self, at: usize) -> &'a [u8] {
+        self.bytes.get(at..).unwrap_or(&[])
+    }
+}
+
+fn word_of(bytes: &[u8], at: usize) -> &[u8] {
+    let rest = bytes.get(at..).unwrap_or(&[]);
+    rest.split(|b| *b <= b' ').next().unwrap_or(rest)
+}
+
+// What a line asks for, by its first word.
+#[derive(Clone, Copy, PartialEq, Eq)]
+pub enum Command {
+    Map,
+    Line,
+    Light,
+    Links,
+    Fold,
+    Show,
+}
+
+impl Command {
+    pub fn named(word: &[u8]) -> Option<Command> {
+        match word {
+            b"map" => Some(Command::Map),
+            b"line" => Some(Command::Line),
+            b"light" => Some(Command::Light),
+            b"links" => Some(Command::Links),
+            b"fold" => Some(Command::Fold),
+            b"show" => Some(Command::Show),
+            _ => None,
+        }
+    }
+}
+
+// What a word is not.
+#[derive(Clone, Copy)]
+pub enum Wanted {
+    Number,
+    Double,
+    File,
+    End,
+}
+
+impl fmt::Display for Wanted {
+    fn fmt<W: fmt::Write>(&self, f: &mut fmt::Formatter<W>) -> fmt::Result {
+        f.write_str(match self {
+            Wanted::Number => " is no whole number below 2^64",
+            Wanted::Double => " is no double (16 hexadecimal digits)",
+            Wanted::File => " is no map file (pairs of hexadecimal digits)",
+            Wanted::End => " is more than this line takes",
+        })
+    }
+}
+
+// The word that stands there is not what is wanted.
+#[derive(Clone, Copy)]
+pub struct Fault {
     pub at: usize,
-    pub fault: u64,
+    pub wanted: Wanted,
 }
 
-const NUMBER: u64 = 1;
-
-const DOUBLE: u64 = 2;
-
-const BYTES: u64 = 3;
-
-const MORE: u64 = 4;
-
-fn good(value: u64, at: usize) -> Field {
-    Field {
-        value,
-        at,
-        fault: 0,
-    }
+// The words of a line, from a place on.
+#[derive(Drop)]
+struct Words<'a> {
+    line: &'a [u8],
+    at: usize,
 }
 
-fn bad(at: usize, fault: u64) -> Field {
-    Field {
-        value: 0,
-        at,
-        fault,
+impl<'a> Words<'a> {
+    fn take(&mut self) -> &'a [u8] {
+        let word = word_of(self.line, self.at);
+        self.at = self.at.saturating_add(word.len()).saturating_add(1);
+        word
     }
-}
 
-// A word from `at` to `end`: empty, or of this value.
-fn ended(value: u64, at: usize, end: usize, fault: u64) -> Field {
-    if end <= at {
-        return bad(at, fault);
+    fn number(&mut self) -> Result<u64, Fault> {
+        let at = self.at;
+        number_of(self.take()).ok_or(Fault {
+            at,
+            wanted: Wanted::Number,
+        })
     }
-    good(value, std::num::wrapping_add_usize(end, 1))
-}
 
-// A number of one digit more, if it is below 2 ^ 64.
-fn longer(value: u64, b: u8) -> Field {
-    let d = sample_text::letter(b);
-    if d < 48 {
-        return bad(0, NUMBER);
-    }
-    if d > 57 {
-        return bad(0, NUMBER);
-    }
-    if value > 1844674407370955161 {
-        return bad(0, NUMBER);
-    }
-    let ten = value * 10;
-    if 18446744073709551615 - ten < d - 48 {
-        return bad(0, NUMBER);
-    }
-    good(ten + (d - 48), 0)
-}
-
-// A whole number that stands from `at` on.
-fn number_from(line: &[u8], at: usize) -> Field {
-    let mut value = 0u64;
-    let mut i = at;
-    while i < line.len() {
-        let b = line[i];
-        if b <= 32 {
-            return ended(value, at, i, NUMBER);
+    fn double(&mut self) -> Result<(), Fault> {
+        let at = self.at;
+        let word = self.take();
+        if word.len() == 16 && is_hex(word) {
+            return Ok(());
         }
-        let l = longer(value, b);
-        if l.fault != 0 {
-            return bad(at, NUMBER);
+        Err(Fault {
+            at,
+            wanted: Wanted::Double,
+        })
+    }
+
+    fn file(&mut self) -> Result<(), Fault> {
+        let at = self.at;
+        let word = self.take();
+        if !word.is_empty() && word.len() % 2 == 0 && is_hex(word) {
+            return Ok(());
         }
-        value = l.value;
-        i += 1;
+        Err(Fault {
+            at,
+            wanted: Wanted::File,
+        })
     }
-    ended(value, at, i, NUMBER)
-}
 
-fn number(line: &[u8], f: Field) -> Field {
-    if f.fault != 0 {
-        return f;
-    }
-    number_from(line, f.at)
-}
-
-fn is_hex(b: u8) -> bool {
-    match b {
-        48..=57 | 65..=70 | 97..=102 => true,
-        _ => false,
-    }
-}
-
-// Hexadecimal digits that stand from `at` on: how many.
-fn hex_from(line: &[u8], at: usize, fault: u64) -> Field {
-    let mut n = 0u64;
-    let mut i = at;
-    while i < line.len() {
-        let b = line[i];
-        if b <= 32 {
-            return ended(n, at, i, fault);
+    fn numbers(&mut self) -> Result<(), Fault> {
+        for _ in 0..self.number()? {
+            self.number()?;
         }
-        if !is_hex(b) {
-            return bad(at, fault);
-        }
-        n = std::num::wrapping_add_u64(n, 1);
-        i += 1;
+        Ok(())
     }
-    ended(n, at, i, fault)
-}
 
-fn double(line: &[u8], f: Field) -> Field {
-    if f.fault != 0 {
-        return f;
+    fn point(&mut self) -> Result<(), Fault> {
+        self.double()?;
+        self.double()?;
+        self.double()
     }
-    let w = hex_from(line, f.at, DOUBLE);
-    if w.fault == 0 {
-        if w.value != 16 {
-            return bad(f.at, DOUBLE);
+
+    fn points(&mut self) -> Result<(), Fault> {
+        for _ in 0..self.number()? {
+            self.point()?;
+        }
+        Ok(())
+    }
+
+    fn lamps(&mut self) -> Result<(), Fault> {
+        for _ in 0..self.number()? {
+            self.point()?;
+            self.number()?;
+            self.number()?;
+        }
+        Ok(())
+    }
+
+    // Whether something is given here: anything but 0 says so.
+    fn is_given(&mut self) -> Result<bool, Fault> {
+        Ok(self.number()? != 0)
+    }
+
+    fn placement(&mut self) -> Result<(), Fault> {
+        match self.number()? {
+            2 => self.points(),
+            _ => self.double(),
         }
     }
-    w
-}
 
-fn bytes(line: &[u8], f: Field) -> Field {
-    let w = hex_from(line, f.at, BYTES);
-    if w.value % 2 == 1 {
-        return bad(f.at, BYTES);
+    fn stop_line(&mut self) -> Result<(), Fault> {
+        self.numbers()?;
+        self.placement()?;
+        self.number()?;
+        Ok(())
     }
-    w
-}
 
-fn point(line: &[u8], f: Field) -> Field {
-    double(line, double(line, double(line, f)))
-}
-
-// An item of a list: 0 a number, 1 a point, else a lamp.
-fn item(line: &[u8], f: Field, kind: u64) -> Field {
-    match kind {
-        0 => number(line, f),
-        1 => point(line, f),
-        _ => number(line, number(line, point(line, f))),
-    }
-}
-
-fn items(line: &[u8], f: Field, n: u64, kind: u64) -> Field {
-    let mut g = f;
-    let mut left = n;
-    while left > 0 {
-        if g.fault != 0 {
-            return g;
-        }
-        g = item(line, g, kind);
-        left -= 1;
-    }
-    g
-}
-
-fn list(line: &[u8], f: Field, kind: u64) -> Field {
-    let w = number(line, f);
-    items(line, w, w.value, kind)
-}
-
-fn placement(line: &[u8], f: Field) -> Field {
-    let w = number(line, f);
-    if w.value == 2 {
-        return list(line, w, 1);
-    }
-    double(line, w)
-}
-
-fn choice(line: &[u8], f: Field) -> Field {
-    let w = number(line, f);
-    let how = w.value;
-    match how {
-        1 => number(line, w),
-        2 => placement(line, w),
-        _ => w,
-    }
-}
-
-// Nothing behind a 0; behind any other number a list of such items, or for 3 a double, for 4 a number.
-fn option(line: &[u8], f: Field, kind: u64) -> Field {
-    let w = number(line, f);
-    if w.value == 0 {
-        return w;
-    }
-    match kind {
-        3 => double(line, w),
-        4 => number(line, w),
-        _ => list(line, w, kind),
-    }
-}
-
-fn light(line: &[u8], f: Field) -> Field {
-    let housing = choice(line, list(line, f, 0));
-    let height = option(line, housing, 1);
-    let kind = option(line, height, 3);
-    let lamps = number(line, kind);
-    option(line, option(line, lamps, 2), 4)
-}
-
-fn links(line: &[u8], f: Field) -> Field {
-    let lanes = number(line, f);
-    list(line, list(line, list(line, lanes, 0), 0), 0)
-}
-
-// The words behind the name of a line.
-fn fields(line: &[u8], name: u64, f: Field) -> Field {
-    match name {
-        0x6D6170 => bytes(line, f),
-        0x6C696E65 => number(line, placement(line, list(line, f, 0))),
-        0x6C69676874 => light(line, f),
-        0x6C696E6B73 => links(line, f),
-        _ => f,
-    }
-}
-
-// Where the word that starts at `at` ends; no more than 40 letters are taken.
-fn word_end(line: &[u8], at: usize) -> usize {
-    let mut i = at;
-    let mut left = 40u64;
-    while left > 0 {
-        if i < line.len() {
-            if line[i] <= 32 {
-                return i;
-            }
-            i += 1;
-        }
-        left -= 1;
-    }
-    i
-}
-
-// The word that starts at `at`, in quotes.
-pub fn quoted(line: &[u8], at: usize) {
-    let end = word_end(line, at);
-    say(b"'");
-    if end <= line.len() {
-        if at < end {
-            say(&line[at..end]);
+    fn line_choice(&mut self) -> Result<(), Fault> {
+        match self.number()? {
+            1 => self.number().map(|_| ()),
+            2 => self.placement(),
+            _ => Ok(()),
         }
     }
-    say(b"'");
+
+    fn light(&mut self) -> Result<(), Fault> {
+        self.numbers()?;
+        self.line_choice()?;
+        if self.is_given()? {
+            self.points()?;
+        }
+        if self.is_given()? {
+            self.double()?;
+        }
+        self.number()?;
+        if self.is_given()? {
+            self.lamps()?;
+        }
+        if self.is_given()? {
+            self.number()?;
+        }
+        Ok(())
+    }
+
+    fn links(&mut self) -> Result<(), Fault> {
+        self.number()?;
+        self.numbers()?;
+        self.numbers()?;
+        self.numbers()
+    }
+
+    // The words behind the name of a line.
+    fn fields(&mut self, command: Command) -> Result<(), Fault> {
+        match command {
+            Command::Map => self.file(),
+            Command::Line => self.stop_line(),
+            Command::Light => self.light(),
+            Command::Links => self.links(),
+            Command::Fold | Command::Show => Ok(()),
+        }
+    }
+}
+
+fn number_of(word: &[u8]) -> Option<u64> {
+    // `parse` would take a sign
+    if !word.iter().all(|b| b.is_ascii_digit()) {
+        return None;
+    }
+    str::from_utf8(word).ok()?.parse().ok()
+}
+
+fn is_hex(word: &[u8]) -> bool {
+    word.iter().all(|b| b.is_ascii_hexdigit())
+}
+
+// Whether the line is in the notation.
+pub fn check(command: Command, line: Line<'_>) -> Result<(), Fault> {
+    let mut words = Words {
+        line: line.bytes,
+        at: 0,
+    };
+    words.take();
+    words.fields(command)?;
+    if words.at < line.bytes.len() {
+        return Err(Fault {
+            at: words.at,
+            wanted: Wanted::End,
+        });
+    }
+    Ok(())
+}
+
+// The word that stands there, in quotes; no more than 40 letters of it. A word need not be UTF-8.
+pub fn print_quoted(rt: &impl Print, line: Line<'_>, at: usize) -> io::Result<()> {
+    let word = line.word(at);
+    print!(rt; "'")?;
+    rt.write_all(word.get(..40).unwrap_or(word))?;
+    print!(rt; "'")
 }
 
 // The start of a message.
-pub fn at_line(no: u64) {
-    word(b"line ", no);
-    say(b": ");
-}
-
-fn explained(fault: u64) {
-    match fault {
-        1 => say(b" is no whole number below 2^64\n"),
-        2 => say(b" is no double (16 hexadecimal digits)\n"),
-        3 => say(b" is no map file (pairs of hexadecimal digits)\n"),
-        _ => say(b" is more than this line takes\n"),
-    }
+pub fn print_place(rt: &impl Print, line: Line<'_>) -> io::Result<()> {
+    print!(rt; "line {}: ", line.number)
 }
 
 // A word that is missing where a blank stands, or the end of a line after one.
-pub fn blank(b: u8) {
-    if b == 10 || b == 13 {
-        say(b"a blank or a carriage return at its end\n");
-    } else {
-        say(b"a blank too many\n");
+pub fn print_blank(rt: &impl Print, blank: u8) -> io::Result<()> {
+    match blank {
+        b'\n' | b'\r' => println!(rt; "a blank or a carriage return at its end"),
+        _ => println!(rt; "a blank too many"),
     }
 }
 
-fn complain(line: &[u8], f: Field, no: u64) {
-    at_line(no);
-    let at = f.at;
-    if at < line.len() {
-        let b = line[at];
-        if b <= 32 {
-            blank(b);
-            return;
+pub fn print_fault(rt: &impl Print, line: Line<'_>, fault: Fault) -> io::Result<()> {
+    print_place(rt, line)?;
+    match line.bytes.get(fault.at) {
+        None => println!(rt; "ends too early"),
+        Some(b) if *b <= b' ' => print_blank(rt, *b),
+        Some(_) => {
+            print_quoted(rt, line, fault.at)?;
+            println!(rt; "{}", fault.wanted)
         }
-        quoted(line, at);
-        explained(f.fault);
-        return;
     }
-    say(b"ends too early\n");
-}
-
-// Whether the line, whose name ends before `at`, is in the notation; if not, it is said.
-pub fn well_formed(line: &[u8], name: u64, at: usize, no: u64) -> bool {
-    let f = fields(line, name, good(0, at));
-    if f.fault != 0 {
-        complain(line, f, no);
-        return false;
-    }
-    if f.at < line.len() {
-        complain(line, bad(f.at, MORE), no);
-        return false;
-    }
-    true
 }

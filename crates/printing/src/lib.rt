@@ -1,115 +1,115 @@
-// Requests, answers, change sets and maps in words, for a person to read.
+// Requests, answers, change sets and maps in words, for a person to read: each is a value that `{}` writes. They stand in the rows and
+// tables of numbers that calls are lent from C; a number that stands for a case there is put into words where it is read.
 #![tactic(auto)]
 
-pub mod decimal;
-mod limbs;
+pub mod answers;
+mod decimal;
 pub mod map;
-mod refusals;
 pub mod requests;
 pub mod sets;
 
-// The descriptor that programs print to.
-pub const STDOUT_FILENO: i32 = 1;
+pub use decimal::Decimal;
+use std::fmt;
 
-pub fn say(t: &[u8]) {
-    io::write_all(STDOUT_FILENO, t);
+// A kind of record.
+#[derive(Clone, Copy, PartialEq, Eq)]
+pub enum Kind {
+    Lane,
+    Boundary,
+    Road,
+    Junction,
+    StopLine,
+    Signal,
+    Crosswalk,
+    Rule,
 }
 
-pub fn number(n: u64) {
-    io::print_decimal(STDOUT_FILENO, n);
-}
-
-pub fn get(t: &[u64], i: usize) -> u64 {
-    if i < t.len() { t[i] } else { 0 }
-}
-
-pub fn get_real(t: &[f64], i: usize) -> f64 {
-    if i < t.len() { t[i] } else { 0.0 }
-}
-
-// A word, and a number behind it.
-pub fn word(t: &[u8], n: u64) {
-    say(t);
-    number(n);
-}
-
-// So many numbers of a table, from an index on.
-pub fn numbers(t: &[u64], from: usize, n: u64) {
-    let mut i = from;
-    let mut left = n;
-    while left > 0 {
-        word(b" ", get(t, i));
-        i = std::num::wrapping_add_usize(i, 1);
-        left -= 1;
-    }
-}
-
-// A point.
-fn point(t: &[f64], i: usize) {
-    say(b" (");
-    decimal::decimal(get_real(t, i));
-    say(b", ");
-    decimal::decimal(get_real(t, std::num::wrapping_add_usize(i, 1)));
-    say(b", ");
-    decimal::decimal(get_real(t, std::num::wrapping_add_usize(i, 2)));
-    say(b")");
-}
-
-// So many points of a table, from an index on.
-pub fn points(t: &[f64], from: usize, n: u64) {
-    let mut i = from;
-    let mut left = n;
-    while left > 0 {
-        point(t, i);
-        i = std::num::wrapping_add_usize(i, 3);
-        left -= 1;
-    }
-}
-
-// A kind of record, as change sets number them.
-pub fn kind(k: u64) {
-    match k {
-        1 => say(b"lane"),
-        2 => say(b"boundary"),
-        3 => say(b"road"),
-        4 => say(b"junction"),
-        5 => say(b"stop line"),
-        6 => say(b"signal"),
-        7 => say(b"crosswalk"),
-        _ => say(b"rule"),
-    }
-}
-
-// A side of a lane, as answers number them.
-fn side(s: u64) {
-    if s == 0 {
-        say(b", left side\n");
-    } else {
-        say(b", right side\n");
-    }
-}
-
-// The ends of a line that was drawn across lanes: whose boundaries they lie on.
-pub fn ends(left: u64, left_side: u64, right: u64, right_side: u64) {
-    word(b"  left end: lane ", left);
-    side(left_side);
-    word(b"  right end: lane ", right);
-    side(right_side);
-}
-
-// An answer in words, of a call that answers records of this kind. What is neither done nor refused was no call.
-pub fn answer(of: u64, what: u64, made: u64, detail: u64, second: u64) {
-    if what == 0 {
-        say(b"  done, ");
-        kind(of);
-        word(b" ", made);
-    } else {
-        if what < 15 {
-            say(b"  ");
-            refusals::refusal(what, detail, second);
-        } else {
-            say(b"  no such call");
+// A kind by its number in change sets.
+impl From<u64> for Kind {
+    fn from(number: u64) -> Kind {
+        match number {
+            1 => Kind::Lane,
+            2 => Kind::Boundary,
+            3 => Kind::Road,
+            4 => Kind::Junction,
+            5 => Kind::StopLine,
+            6 => Kind::Signal,
+            7 => Kind::Crosswalk,
+            _ => Kind::Rule,
         }
     }
-    say(b"\n");
+}
+
+impl fmt::Display for Kind {
+    fn fmt<W: fmt::Write>(&self, f: &mut fmt::Formatter<W>) -> fmt::Result {
+        f.write_str(match self {
+            Kind::Lane => "lane",
+            Kind::Boundary => "boundary",
+            Kind::Road => "road",
+            Kind::Junction => "junction",
+            Kind::StopLine => "stop line",
+            Kind::Signal => "signal",
+            Kind::Crosswalk => "crosswalk",
+            Kind::Rule => "rule",
+        })
+    }
+}
+
+// A record by its kind and number.
+#[derive(Clone, Copy)]
+pub struct Entry {
+    pub kind: Kind,
+    pub number: u64,
+}
+
+impl fmt::Display for Entry {
+    fn fmt<W: fmt::Write>(&self, f: &mut fmt::Formatter<W>) -> fmt::Result {
+        write!(f, "{} {}", self.kind, self.number)
+    }
+}
+
+// Numbers, with a blank before each.
+#[derive(Clone, Copy)]
+struct Numbers<'a>(&'a [u64]);
+
+impl fmt::Display for Numbers<'_> {
+    fn fmt<W: fmt::Write>(&self, f: &mut fmt::Formatter<W>) -> fmt::Result {
+        if self.0.is_empty() {
+            return f.write_str(" none");
+        }
+        for number in self.0 {
+            write!(f, " {number}")?;
+        }
+        Ok(())
+    }
+}
+
+// Points, with a blank before each.
+#[derive(Clone, Copy)]
+struct Points<'a>(&'a [[f64; 3]]);
+
+impl fmt::Display for Points<'_> {
+    fn fmt<W: fmt::Write>(&self, f: &mut fmt::Formatter<W>) -> fmt::Result {
+        for [x, y, z] in self.0 {
+            write!(f, " ({}, {}, {})", Decimal(*x), Decimal(*y), Decimal(*z))?;
+        }
+        Ok(())
+    }
+}
+
+// So many points, whose coordinates the table begins with.
+fn first_points(coords: &[f64], count: u64) -> Points<'_> {
+    let (all, _) = coords.as_chunks();
+    Points(part(all, 0, count))
+}
+
+// What stands in a table from an index on.
+fn rest<T>(table: &[T], from: u64) -> &[T] {
+    table.get(from as usize..).unwrap_or(&[])
+}
+
+// The same, of so many items.
+fn part<T>(table: &[T], from: u64, count: u64) -> &[T] {
+    let all = rest(table, from);
+    all.get(..count as usize).unwrap_or(all)
 }

@@ -1,252 +1,267 @@
 // The records of a map's tables.
-use crate::{decimal, get, get_real, numbers, points, say, word};
+ghost use Rattle.std.specs.Prelude.{◌<◌};
 
-// An index a little after another.
-fn after(i: usize, n: usize) -> usize {
-    std::num::wrapping_add_usize(i, n)
+use crate::{Decimal, Numbers, first_points, part, rest};
+use std::fmt;
+
+// A map's memory. Its words begin with the next number and the counts of its six tables.
+#[derive(Clone, Copy)]
+pub struct Map<'a> {
+    pub words: &'a [u64],
+    pub coords: &'a [f64],
 }
 
-fn lane_kind(k: u64) {
-    match k {
-        0 => say(b": driving"),
-        1 => say(b": shoulder"),
-        2 => say(b": bus"),
-        3 => say(b": bicycle"),
-        4 => say(b": walkway"),
-        5 => say(b": parking"),
-        6 => say(b": emergency"),
-        _ => say(b": other"),
+impl<'a> Map<'a> {
+    // The rows of the table whose count is this word, and whose rows stand from there on.
+    fn rows<const WIDTH: usize>(&self, count: usize, from: u64) -> &'a [[u64; WIDTH]]
+        requires { 0 < WIDTH }
+    {
+        let (all, _) = rest(self.words, from).as_chunks();
+        part(all, 0, self.words.get(count).copied().unwrap_or(0))
     }
-}
 
-fn reversed(flag: u64) {
-    if flag != 0 {
-        say(b" reversed");
+    // The coordinates of the same, from there on.
+    fn places<const WIDTH: usize>(&self, from: u64) -> &'a [[f64; WIDTH]]
+        requires { 0 < WIDTH }
+    {
+        let (all, _) = rest(self.coords, from).as_chunks();
+        all
     }
-}
 
-fn lane(words: &[u64], coords: &[f64], i: usize, c: usize) {
-    word(b"  lane ", get(words, i));
-    lane_kind(get(words, after(i, 1)));
-    word(b", boundaries ", get(words, after(i, 2)));
-    reversed(get(words, after(i, 3)));
-    word(b" and ", get(words, after(i, 4)));
-    reversed(get(words, after(i, 5)));
-    if get(words, after(i, 6)) != 0 {
-        say(b", centreline");
-        points(coords, c, get(words, after(i, 7)));
-    }
-    say(b"\n");
-}
-
-fn boundary(words: &[u64], coords: &[f64], i: usize, c: usize) {
-    word(b"  boundary ", get(words, i));
-    say(b":");
-    points(coords, c, get(words, after(i, 1)));
-    say(b"\n");
-}
-
-fn stop_line(words: &[u64], coords: &[f64], i: usize, c: usize) {
-    word(b"  stop line ", get(words, i));
-    say(b":");
-    points(coords, c, get(words, after(i, 1)));
-    say(b"\n");
-}
-
-fn colour(k: u64) {
-    match k {
-        0 => say(b" red"),
-        1 => say(b" yellow"),
-        2 => say(b" green"),
-        _ => say(b" white"),
-    }
-}
-
-fn arrow(k: u64) {
-    match k {
-        0 => {}
-        1 => say(b" arrow up"),
-        2 => say(b" arrow down"),
-        3 => say(b" arrow left"),
-        4 => say(b" arrow right"),
-        5 => say(b" arrow up-left"),
-        6 => say(b" arrow up-right"),
-        7 => say(b" arrow down-left"),
-        _ => say(b" arrow down-right"),
-    }
-}
-
-// So many lamps, whose colours and arrows start at i and whose positions at c.
-fn lamps(words: &[u64], coords: &[f64], i: usize, c: usize, n: u64) {
-    let mut row = i;
-    let mut part = c;
-    let mut left = n;
-    while left > 0 {
-        if left < n {
-            say(b",");
+    // Lanes, boundaries and stop lines.
+    fn ways<W: fmt::Write>(&self, f: &mut fmt::Formatter<W>) -> fmt::Result {
+        for (words, coords) in self.rows(1, 7).iter().zip(self.places(0)) {
+            writeln!(f, "{}", Lane(words, coords))?;
         }
-        colour(get(words, row));
-        arrow(get(words, after(row, 1)));
-        points(coords, part, 1);
-        row = after(row, 2);
-        part = after(part, 3);
-        left -= 1;
+        for (words, coords) in self.rows(2, 519).iter().zip(self.places(12288)) {
+            writeln!(f, "  boundary {}", Line(words, coords))?;
+        }
+        for (words, coords) in self.rows(3, 775).iter().zip(self.places(36864)) {
+            writeln!(f, "  stop line {}", Line(words, coords))?;
+        }
+        Ok(())
+    }
+
+    // Signals, crosswalks and rules.
+    fn devices<W: fmt::Write>(&self, f: &mut fmt::Formatter<W>) -> fmt::Result {
+        for (words, coords) in self.rows(4, 903).iter().zip(self.places(49152)) {
+            writeln!(f, "{}", Signal(words, coords))?;
+        }
+        for (words, coords) in self.rows(5, 1735).iter().zip(self.places(62272)) {
+            writeln!(f, "{}", Crosswalk(words, coords))?;
+        }
+        for (words, coords) in self.rows(6, 1895).iter().zip(self.places(80704)) {
+            writeln!(f, "{}", Rule(words, coords))?;
+        }
+        Ok(())
     }
 }
 
-fn signal(words: &[u64], coords: &[f64], i: usize, c: usize) {
-    word(b"  signal ", get(words, i));
-    if get(words, after(i, 1)) == 0 {
-        say(b": for vehicles");
-    } else {
-        say(b": for pedestrians");
+// The next number and the records, each line with its end.
+impl fmt::Display for Map<'_> {
+    fn fmt<W: fmt::Write>(&self, f: &mut fmt::Formatter<W>) -> fmt::Result {
+        writeln!(
+            f,
+            "  next number {}",
+            self.words.first().copied().unwrap_or(0)
+        )?;
+        self.ways(f)?;
+        self.devices(f)
     }
-    say(b", housing");
-    points(coords, c, get(words, after(i, 2)));
-    if get(words, after(i, 3)) != 0 {
-        say(b", height ");
-        decimal::decimal(get_real(coords, after(c, 192)));
-    }
-    say(b", lamps");
-    lamps(
-        words,
-        coords,
-        after(i, 5),
-        after(c, 193),
-        get(words, after(i, 4)),
-    );
-    say(b"\n");
 }
 
-// A crosswalk: its edges, and its outline where it has one.
-fn crosswalk(words: &[u64], coords: &[f64], i: usize, c: usize) {
-    word(b"  crosswalk ", get(words, i));
-    say(b": left edge");
-    points(coords, c, get(words, after(i, 1)));
-    say(b", right edge");
-    points(coords, after(c, 192), get(words, after(i, 2)));
-    if get(words, after(i, 3)) != 0 {
-        say(b", outline");
-        points(coords, after(c, 384), get(words, after(i, 4)));
+#[derive(Clone, Copy)]
+struct Lane<'a>(&'a [u64; 8], &'a [f64; 192]);
+
+impl fmt::Display for Lane<'_> {
+    fn fmt<W: fmt::Write>(&self, f: &mut fmt::Formatter<W>) -> fmt::Result {
+        let Lane(words, coords) = *self;
+        write!(f, "  lane {}: {}", words[0], lane_kind(words[1]))?;
+        write!(f, ", boundaries {}{}", words[2], reversed(words[3]))?;
+        write!(f, " and {}{}", words[4], reversed(words[5]))?;
+        if words[6] != 0 {
+            write!(f, ", centreline{}", first_points(coords, words[7]))?;
+        }
+        Ok(())
     }
-    say(b"\n");
 }
 
-fn rule_kind(k: u64, value: u64) {
-    match k {
-        1 => say(b": light"),
-        2 => {
-            if value == 1 {
-                say(b": stop sign");
-            } else {
-                word(b": sign of type ", value);
+fn lane_kind(kind: u64) -> &'static str {
+    match kind {
+        0 => "driving",
+        1 => "shoulder",
+        2 => "bus",
+        3 => "bicycle",
+        4 => "walkway",
+        5 => "parking",
+        6 => "emergency",
+        _ => "other",
+    }
+}
+
+fn reversed(flag: u64) -> &'static str {
+    if flag != 0 { " reversed" } else { "" }
+}
+
+// A boundary or a stop line.
+#[derive(Clone, Copy)]
+struct Line<'a>(&'a [u64; 2], &'a [f64; 192]);
+
+impl fmt::Display for Line<'_> {
+    fn fmt<W: fmt::Write>(&self, f: &mut fmt::Formatter<W>) -> fmt::Result {
+        let Line(words, coords) = *self;
+        let [number, count] = *words;
+        write!(f, "{number}:{}", first_points(coords, count))
+    }
+}
+
+// A signal, whose coordinates are up to 64 points of its housing, its height, and four lamps.
+#[derive(Clone, Copy)]
+struct Signal<'a>(&'a [u64; 13], &'a [f64; 205]);
+
+impl fmt::Display for Signal<'_> {
+    fn fmt<W: fmt::Write>(&self, f: &mut fmt::Formatter<W>) -> fmt::Result {
+        let Signal(words, coords) = *self;
+        write!(f, "  signal {}: for {}", words[0], users(words[1]))?;
+        write!(f, ", housing{}", first_points(coords, words[2]))?;
+        if words[3] != 0 {
+            write!(f, ", height {}", Decimal(coords[192]))?;
+        }
+        write!(f, ", lamps")?;
+        let (cases, _) = words[5..].as_chunks();
+        let (places, _) = coords[193..].as_chunks();
+        let lamps = part(cases, 0, words[4]).iter().zip(places);
+        f.write_joined(lamps.map(|(case, place)| Lamp(*case, *place)), ",")
+    }
+}
+
+fn users(kind: u64) -> &'static str {
+    if kind == 0 { "vehicles" } else { "pedestrians" }
+}
+
+// A lamp's colour and arrow, and its position.
+#[derive(Clone, Copy)]
+struct Lamp([u64; 2], [f64; 3]);
+
+impl fmt::Display for Lamp {
+    fn fmt<W: fmt::Write>(&self, f: &mut fmt::Formatter<W>) -> fmt::Result {
+        let [shown, direction] = self.0;
+        write!(
+            f,
+            " {}{}{}",
+            colour(shown),
+            arrow(direction),
+            first_points(&self.1, 1)
+        )
+    }
+}
+
+fn colour(number: u64) -> &'static str {
+    match number {
+        0 => "red",
+        1 => "yellow",
+        2 => "green",
+        _ => "white",
+    }
+}
+
+fn arrow(number: u64) -> &'static str {
+    match number {
+        0 => "",
+        1 => " arrow up",
+        2 => " arrow down",
+        3 => " arrow left",
+        4 => " arrow right",
+        5 => " arrow up-left",
+        6 => " arrow up-right",
+        7 => " arrow down-left",
+        _ => " arrow down-right",
+    }
+}
+
+// A crosswalk: its edges, and its outline where it has one, of up to 64 points each.
+#[derive(Clone, Copy)]
+struct Crosswalk<'a>(&'a [u64; 5], &'a [f64; 576]);
+
+impl fmt::Display for Crosswalk<'_> {
+    fn fmt<W: fmt::Write>(&self, f: &mut fmt::Formatter<W>) -> fmt::Result {
+        let Crosswalk(words, coords) = *self;
+        let [number, left, right, given, outline] = *words;
+        write!(
+            f,
+            "  crosswalk {number}: left edge{}",
+            first_points(coords, left)
+        )?;
+        write!(f, ", right edge{}", first_points(&coords[192..], right))?;
+        if given != 0 {
+            write!(f, ", outline{}", first_points(&coords[384..], outline))?;
+        }
+        Ok(())
+    }
+}
+
+#[derive(Clone, Copy)]
+struct Rule<'a>(&'a [u64; 92], &'a [f64; 192]);
+
+impl<'a> Rule<'a> {
+    // A list of up to sixteen numbers, whose count stands at this word.
+    fn list(&self, count: usize) -> Numbers<'a>
+        requires { count < 92 }
+    {
+        let words = self.0;
+        Numbers(part(words, count as u64 + 1, words[count]))
+    }
+
+    fn kind<W: fmt::Write>(&self, f: &mut fmt::Formatter<W>) -> fmt::Result {
+        let value = self.0[2];
+        match self.0[1] {
+            1 => f.write_str("light"),
+            2 if value == 1 => f.write_str("stop sign"),
+            2 => write!(f, "sign of type {value}"),
+            3 => f.write_str("marking"),
+            4 => f.write_str("right of way"),
+            5 => write!(f, "crosswalk {value}"),
+            _ => write!(f, "other, kind {value}"),
+        }
+    }
+
+    // What only some kinds of rule have: lists, a line of its own, which a marking always has, and where a sign stands.
+    fn parts<W: fmt::Write>(&self, f: &mut fmt::Formatter<W>) -> fmt::Result {
+        let Rule(words, coords) = *self;
+        let kind = words[1];
+        match kind {
+            1 => write!(f, ", signals{}", self.list(41))?,
+            4 => {
+                write!(
+                    f,
+                    ", priority lanes{}, yielding lanes{}",
+                    self.list(41),
+                    self.list(58)
+                )?;
+                write!(f, ", lines{}", self.list(75))?;
             }
+            5 => write!(f, ", lines{}", self.list(75))?,
+            _ => {}
         }
-        3 => say(b": marking"),
-        4 => say(b": right of way"),
-        5 => word(b": crosswalk ", value),
-        _ => word(b": other, kind ", value),
-    }
-}
-
-// A list of a rule, whose count stands at i.
-fn list(name: &[u8], words: &[u64], i: usize) {
-    say(name);
-    let n = get(words, i);
-    if n == 0 {
-        say(b" none");
-    }
-    numbers(words, after(i, 1), n);
-}
-
-// The lists that only some kinds of rule have.
-fn lists(words: &[u64], i: usize, k: u64) {
-    match k {
-        1 => list(b", signals", words, after(i, 41)),
-        4 => {
-            list(b", priority lanes", words, after(i, 41));
-            list(b", yielding lanes", words, after(i, 58));
-            list(b", lines", words, after(i, 75));
+        if kind == 3 || (kind < 3 && words[3] != 0) {
+            write!(f, ", line {}", words[4])?;
         }
-        5 => list(b", lines", words, after(i, 75)),
-        _ => {}
-    }
-}
-
-// A rule's own line; a marking always has one.
-fn line(words: &[u64], i: usize, k: u64) {
-    if k == 3 {
-        word(b", line ", get(words, after(i, 4)));
-        return;
-    }
-    if get(words, after(i, 3)) != 0 {
-        word(b", line ", get(words, after(i, 4)));
-    }
-}
-
-fn rule(words: &[u64], coords: &[f64], i: usize, c: usize) {
-    word(b"  rule ", get(words, i));
-    let k = get(words, after(i, 1));
-    rule_kind(k, get(words, after(i, 2)));
-    lists(words, i, k);
-    if k < 4 {
-        line(words, i, k);
-    }
-    if k == 2 {
-        if get(words, after(i, 5)) != 0 {
-            say(b", standing at");
-            points(coords, c, get(words, after(i, 6)));
+        if kind == 2 && words[5] != 0 {
+            write!(f, ", standing at{}", first_points(coords, words[6]))?;
         }
-    }
-    list(b", lanes", words, after(i, 7));
-    if get(words, after(i, 24)) != 0 {
-        list(b", controls crosswalks", words, after(i, 24));
-    }
-    say(b"\n");
-}
-
-// Record i of a table: 1 lanes, 2 boundaries, 3 stop lines, 4 signals, 5 crosswalks, else rules.
-fn record(words: &[u64], coords: &[f64], table: u64, i: usize, c: usize) {
-    match table {
-        1 => lane(words, coords, i, c),
-        2 => boundary(words, coords, i, c),
-        3 => stop_line(words, coords, i, c),
-        4 => signal(words, coords, i, c),
-        5 => crosswalk(words, coords, i, c),
-        _ => rule(words, coords, i, c),
+        Ok(())
     }
 }
 
-// So many records of a table, whose rows start at i and c and are as wide as said.
-fn records(
-    words: &[u64],
-    coords: &[f64],
-    table: u64,
-    n: u64,
-    i: usize,
-    width: usize,
-    c: usize,
-    coord_width: usize,
-) {
-    let mut row = i;
-    let mut part = c;
-    let mut left = n;
-    while left > 0 {
-        record(words, coords, table, row, part);
-        row = after(row, width);
-        part = after(part, coord_width);
-        left -= 1;
+impl fmt::Display for Rule<'_> {
+    fn fmt<W: fmt::Write>(&self, f: &mut fmt::Formatter<W>) -> fmt::Result {
+        write!(f, "  rule {}: ", self.0[0])?;
+        self.kind(f)?;
+        self.parts(f)?;
+        write!(f, ", lanes{}", self.list(7))?;
+        if self.0[24] != 0 {
+            write!(f, ", controls crosswalks{}", self.list(24))?;
+        }
+        Ok(())
     }
-}
-
-// The next number and the records.
-pub fn map(words: &[u64], coords: &[f64]) {
-    word(b"  next number ", get(words, 0));
-    say(b"\n");
-    records(words, coords, 1, get(words, 1), 7, 8, 0, 192);
-    records(words, coords, 2, get(words, 2), 519, 2, 12288, 192);
-    records(words, coords, 3, get(words, 3), 775, 2, 36864, 192);
-    records(words, coords, 4, get(words, 4), 903, 13, 49152, 205);
-    records(words, coords, 5, get(words, 5), 1735, 5, 62272, 576);
-    records(words, coords, 6, get(words, 6), 1895, 92, 80704, 192);
 }

@@ -1,112 +1,123 @@
 // Requests, as rows of a list of calls with their pools.
-use crate::{decimal, get, get_real, numbers, points, say, word};
+use crate::{Decimal, Numbers, Points, first_points, part, rest};
+use std::fmt;
 
-// A list whose place and count stand in words k and k + 1 of the row.
-fn list(name: &[u8], row: &[u64], lists: &[u64], k: usize) {
-    let n = get(row, std::num::wrapping_add_usize(k, 1));
-    say(name);
-    if n == 0 {
-        say(b" none");
+#[derive(Clone, Copy)]
+pub struct Request<'a> {
+    pub row: &'a [u64],
+    pub lists: &'a [u64],
+    pub reals: &'a [f64],
+}
+
+impl<'a> Request<'a> {
+    fn word(&self, k: usize) -> u64 {
+        self.row.get(k).copied().unwrap_or(0)
     }
-    numbers(lists, rows::index(get(row, k)), n);
-}
 
-fn given(row: &[u64], reals: &[f64], k: usize) {
-    let n = get(row, std::num::wrapping_add_usize(k, 1));
-    points(reals, rows::index(get(row, k)), n / 3);
-}
+    fn real(&self, i: usize) -> Decimal {
+        Decimal(self.reals.get(i).copied().unwrap_or(0.0))
+    }
 
-fn placement(how: u64, row: &[u64], reals: &[f64], k: usize) {
-    match how {
-        0 => {
-            say(b" at the lane's end, offset ");
-            decimal::decimal(get_real(reals, 0));
+    // A list whose place and count stand in two words of the row.
+    fn list(&self, place: usize, count: usize) -> Numbers<'a> {
+        Numbers(part(self.lists, self.word(place), self.word(count)))
+    }
+
+    // The same of points, by the count of their coordinates.
+    fn points(&self, place: usize, count: usize) -> Points<'a> {
+        first_points(rest(self.reals, self.word(place)), self.word(count) / 3)
+    }
+
+    fn placement<W: fmt::Write>(
+        &self,
+        f: &mut fmt::Formatter<W>,
+        how: u64,
+        given: Points<'_>,
+    ) -> fmt::Result {
+        match how {
+            0 => write!(f, " at the lane's end, offset {}", self.real(0)),
+            1 => write!(f, " at station {}", self.real(0)),
+            2 => write!(f, " along{given}"),
+            _ => write!(f, " placed by no such way: {how}"),
         }
-        1 => {
-            say(b" at station ");
-            decimal::decimal(get_real(reals, 0));
+    }
+
+    fn stop_line<W: fmt::Write>(&self, f: &mut fmt::Formatter<W>) -> fmt::Result {
+        write!(f, "stop line: lanes{}", self.list(1, 2))?;
+        self.placement(f, self.word(3), self.points(6, 7))?;
+        match self.word(4) {
+            0 => f.write_str(", stop sign"),
+            1 => f.write_str(", marking"),
+            2 => f.write_str(", no rule"),
+            rule => write!(f, ", no such rule: {rule}"),
         }
-        2 => {
-            say(b" along");
-            given(row, reals, k);
+    }
+
+    fn line_choice<W: fmt::Write>(&self, f: &mut fmt::Formatter<W>) -> fmt::Result {
+        match self.word(3) {
+            0 => f.write_str(", line automatic"),
+            1 => write!(f, ", line {}", self.word(4)),
+            2 => {
+                f.write_str(", new line")?;
+                self.placement(f, self.word(5), self.points(22, 23))
+            }
+            3 => f.write_str(", no line"),
+            choice => write!(f, ", no such choice of line: {choice}"),
         }
-        _ => word(b" placed by no such way: ", how),
     }
-}
 
-fn stop_line(row: &[u64], lists: &[u64], reals: &[f64]) {
-    list(b"stop line: lanes", row, lists, 1);
-    placement(get(row, 3), row, reals, 6);
-    let rule = get(row, 4);
-    match rule {
-        0 => say(b", stop sign"),
-        1 => say(b", marking"),
-        2 => say(b", no rule"),
-        _ => word(b", no such rule: ", rule),
-    }
-}
-
-fn line_choice(row: &[u64], reals: &[f64]) {
-    let choice = get(row, 3);
-    match choice {
-        0 => say(b", line automatic"),
-        1 => word(b", line ", get(row, 4)),
-        2 => {
-            say(b", new line");
-            placement(get(row, 5), row, reals, 22);
+    fn signal_kind<W: fmt::Write>(&self, f: &mut fmt::Formatter<W>) -> fmt::Result {
+        match self.word(8) {
+            0 => f.write_str(", for vehicles"),
+            1 => f.write_str(", for pedestrians"),
+            kind => write!(f, ", for no such kind: {kind}"),
         }
-        3 => say(b", no line"),
-        _ => word(b", no such choice of line: ", choice),
+    }
+
+    // Housing, height and lamps, where they are given.
+    fn equipment<W: fmt::Write>(&self, f: &mut fmt::Formatter<W>) -> fmt::Result {
+        if self.word(6) != 0 {
+            write!(f, ", housing{}", self.points(24, 25))?;
+        }
+        if self.word(7) != 0 {
+            write!(f, ", height {}", self.real(1))?;
+        }
+        if self.word(9) != 0 {
+            write!(f, ", lamps given: {}", self.word(27) / 3)?;
+        }
+        Ok(())
+    }
+
+    fn light<W: fmt::Write>(&self, f: &mut fmt::Formatter<W>) -> fmt::Result {
+        write!(f, "light: lanes{}", self.list(1, 2))?;
+        self.line_choice(f)?;
+        self.signal_kind(f)?;
+        self.equipment(f)?;
+        if self.word(18) != 0 {
+            write!(f, ", joins rule {}", self.word(19))?;
+        }
+        Ok(())
+    }
+
+    fn links<W: fmt::Write>(&self, f: &mut fmt::Formatter<W>) -> fmt::Result {
+        write!(
+            f,
+            "links: rule {}, lanes{}, crosswalks{}, lines{}",
+            self.word(3),
+            self.list(1, 2),
+            self.list(4, 5),
+            self.list(6, 7)
+        )
     }
 }
 
-fn signal_kind(k: u64) {
-    match k {
-        0 => say(b", for vehicles"),
-        1 => say(b", for pedestrians"),
-        _ => word(b", for no such kind: ", k),
+impl fmt::Display for Request<'_> {
+    fn fmt<W: fmt::Write>(&self, f: &mut fmt::Formatter<W>) -> fmt::Result {
+        match self.word(0) {
+            1 => self.stop_line(f),
+            2 => self.light(f),
+            3 => self.links(f),
+            _ => f.write_str("a list of the request is longer than this program carries"),
+        }
     }
-}
-
-// Housing, height and lamps, where they are given.
-fn equipment(row: &[u64], reals: &[f64]) {
-    if get(row, 6) != 0 {
-        say(b", housing");
-        given(row, reals, 24);
-    }
-    if get(row, 7) != 0 {
-        say(b", height ");
-        decimal::decimal(get_real(reals, 1));
-    }
-    if get(row, 9) != 0 {
-        word(b", lamps given: ", get(row, 27) / 3);
-    }
-}
-
-fn light(row: &[u64], lists: &[u64], reals: &[f64]) {
-    list(b"light: lanes", row, lists, 1);
-    line_choice(row, reals);
-    signal_kind(get(row, 8));
-    equipment(row, reals);
-    if get(row, 18) != 0 {
-        word(b", joins rule ", get(row, 19));
-    }
-}
-
-fn links(row: &[u64], lists: &[u64]) {
-    word(b"links: rule ", get(row, 3));
-    list(b", lanes", row, lists, 1);
-    list(b", crosswalks", row, lists, 4);
-    list(b", lines", row, lists, 6);
-}
-
-pub fn request(row: &[u64], lists: &[u64], reals: &[f64]) {
-    let what = get(row, 0);
-    match what {
-        1 => stop_line(row, lists, reals),
-        2 => light(row, lists, reals),
-        3 => links(row, lists),
-        _ => say(b"a list of the request is longer than this program carries"),
-    }
-    say(b"\n");
 }

@@ -1,102 +1,110 @@
 // Change sets and folds.
-use crate::{get, kind, say, word};
+ghost use Rattle.std.specs.Prelude.{◌<◌};
 
-// What stands before an item of a list: a comma, if it is not the first.
-fn separate(first: bool) {
-    if first {
-        say(b" ");
-    } else {
-        say(b", ");
+use crate::{Entry, Kind, part, rest};
+use std::fmt;
+
+// A set's table: four counts, up to 512 entries each of what was created, modified and deleted, and the warnings.
+#[derive(Clone, Copy)]
+pub struct ChangeSet<'a>(pub &'a [u64]);
+
+const CREATED: u64 = 4;
+
+const MODIFIED: u64 = 1028;
+
+const DELETED: u64 = 2052;
+
+const WARNINGS: u64 = 3076;
+
+impl<'a> ChangeSet<'a> {
+    // The rows of a list, whose count is one of the first four words.
+    fn rows<const WIDTH: usize>(&self, count: usize, from: u64) -> &'a [[u64; WIDTH]]
+        requires { 0 < WIDTH }
+    {
+        let (all, _) = rest(self.0, from).as_chunks();
+        part(all, 0, self.0.get(count).copied().unwrap_or(0))
     }
 }
 
-// So many entries of a set's table, from an index on.
-fn entries(t: &[u64], from: usize, n: u64) {
-    let mut i = from;
-    let mut left = n;
-    while left > 0 {
-        separate(left == n);
-        kind(get(t, i));
-        word(b" ", get(t, std::num::wrapping_add_usize(i, 1)));
-        i = std::num::wrapping_add_usize(i, 2);
-        left -= 1;
+impl fmt::Display for ChangeSet<'_> {
+    fn fmt<W: fmt::Write>(&self, f: &mut fmt::Formatter<W>) -> fmt::Result {
+        let created = self.rows(0, CREATED);
+        let modified = self.rows(1, MODIFIED);
+        let deleted = self.rows(2, DELETED);
+        let warnings = self.rows(3, WARNINGS);
+        if created.is_empty() && modified.is_empty() && deleted.is_empty() {
+            writeln!(f, "  nothing created, modified or deleted")?;
+        }
+        entries(f, "created", created)?;
+        entries(f, "modified", modified)?;
+        entries(f, "deleted", deleted)?;
+        warned(f, warnings)
     }
 }
 
-fn code(c: u64) {
-    match c {
-        1 => say(b"placement clamped"),
-        2 => say(b"orphan rule"),
-        3 => say(b"geometry synthesized"),
-        _ => say(b"rule replaced"),
+// A list that is not empty, as a line.
+fn entries<W: fmt::Write>(f: &mut fmt::Formatter<W>, name: &str, rows: &[[u64; 2]]) -> fmt::Result {
+    if rows.is_empty() {
+        return Ok(());
+    }
+    write!(f, "  {name} ")?;
+    f.write_joined(
+        rows.iter().map(|[kind, number]| entry(*kind, *number)),
+        ", ",
+    )?;
+    writeln!(f)
+}
+
+fn entry(kind: u64, number: u64) -> Entry {
+    Entry {
+        kind: Kind::from(kind),
+        number,
     }
 }
 
-fn warning(t: &[u64], i: usize) {
-    code(get(t, i));
-    let k = get(t, std::num::wrapping_add_usize(i, 1));
-    if k != 0 {
-        say(b" (");
-        kind(k);
-        word(b" ", get(t, std::num::wrapping_add_usize(i, 2)));
-        say(b")");
+fn warned<W: fmt::Write>(f: &mut fmt::Formatter<W>, rows: &[[u64; 3]]) -> fmt::Result {
+    if rows.is_empty() {
+        return Ok(());
+    }
+    write!(f, "  warned ")?;
+    f.write_joined(rows.iter().map(|row| Warning(*row)), ", ")?;
+    writeln!(f)
+}
+
+// A warning: what happened, and the kind of the record that it is about, 0 for none, and its number.
+#[derive(Clone, Copy)]
+struct Warning([u64; 3]);
+
+impl fmt::Display for Warning {
+    fn fmt<W: fmt::Write>(&self, f: &mut fmt::Formatter<W>) -> fmt::Result {
+        let [what, kind, number] = self.0;
+        f.write_str(match what {
+            1 => "placement clamped",
+            2 => "orphan rule",
+            3 => "geometry synthesized",
+            _ => "rule replaced",
+        })?;
+        if kind == 0 {
+            return Ok(());
+        }
+        write!(f, " ({})", entry(kind, number))
     }
 }
 
-fn warnings(t: &[u64], n: u64) {
-    let mut i = 3076;
-    let mut left = n;
-    while left > 0 {
-        separate(left == n);
-        warning(t, i);
-        i = std::num::wrapping_add_usize(i, 3);
-        left -= 1;
-    }
+// How many entries a fold has.
+#[derive(Clone, Copy)]
+pub struct Tally {
+    pub created: u64,
+    pub modified: u64,
+    pub deleted: u64,
 }
 
-fn list(name: &[u8], t: &[u64], from: usize, n: u64) {
-    if n == 0 {
-        return;
+impl fmt::Display for Tally {
+    fn fmt<W: fmt::Write>(&self, f: &mut fmt::Formatter<W>) -> fmt::Result {
+        write!(
+            f,
+            "  tally: {} created, {} modified, {} deleted",
+            self.created, self.modified, self.deleted
+        )
     }
-    say(name);
-    entries(t, from, n);
-    say(b"\n");
-}
-
-fn warned(t: &[u64], n: u64) {
-    if n == 0 {
-        return;
-    }
-    say(b"  warned");
-    warnings(t, n);
-    say(b"\n");
-}
-
-// Whether a set has no entry.
-fn none(t: &[u64]) -> bool {
-    if get(t, 0) != 0 {
-        return false;
-    }
-    if get(t, 1) != 0 {
-        return false;
-    }
-    get(t, 2) == 0
-}
-
-// The lists that are not empty.
-pub fn set(t: &[u64]) {
-    if none(t) {
-        say(b"  nothing created, modified or deleted\n");
-    }
-    list(b"  created", t, 4, get(t, 0));
-    list(b"  modified", t, 1028, get(t, 1));
-    list(b"  deleted", t, 2052, get(t, 2));
-    warned(t, get(t, 3));
-}
-
-pub fn tally(created: u64, modified: u64, deleted: u64) {
-    word(b"  tally: ", created);
-    word(b" created, ", modified);
-    word(b" modified, ", deleted);
-    say(b" deleted\n");
 }

@@ -1,9 +1,0 @@
--- `printing::limbs::multiply` is safe and ends: a store keeps the length, and fewer limbs are left. Assumes nothing.
-use Rattle.std.proofs.Common.{arith, length-set}
-use Rattle.printing.proofs.limbs.multiply.Goals as goal
-
-pub loop-i-smaller : goal.loop-i-smaller
-loop-i-smaller c = simp length-set (omega arith)
-
-pub loop-i-preserved : goal.loop-i-preserved
-loop-i-preserved c = simp length-set (omega arith)

@@ -1,9 +1,0 @@
--- `printing::limbs::shift` is safe and ends: fewer doublings are left. Assumes nothing.
-use Rattle.std.proofs.Common.{◌≡◌, length}
-use Rattle.printing.proofs.limbs.shift.Given as goal
-
-abbrev pub invariant-loop-left : goal.invariant-loop-left
-invariant-loop-left l = length l.a ≡ length l.initial.a
-
-abbrev pub decreases-loop-left : goal.decreases-loop-left
-decreases-loop-left l = l.left

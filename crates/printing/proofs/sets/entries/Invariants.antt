@@ -1,8 +1,0 @@
--- `printing::sets::entries` is safe and ends: fewer are left. Assumes nothing.
-use Rattle.printing.proofs.sets.entries.Given as goal
-
-abbrev pub invariant-loop-left : goal.invariant-loop-left
-invariant-loop-left l = Unit
-
-abbrev pub decreases-loop-left : goal.decreases-loop-left
-decreases-loop-left l = l.left
