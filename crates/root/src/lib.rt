@@ -35,7 +35,7 @@ fn lengthen(r: u64, rest: u64, l: u64, a: u64, b: u64) -> Longer
     let v = n % d * l + b;
     let s = r * l + q;
     // that number is s * s + v - q * q, so that its root is s or one lower
-    let over = if v < q * q { 1 } else { 0 };
+    let over = (v < q * q) as u64;
     Longer {
         root: s - over,
         rest: v + (s * 2 - 1) * over - q * q,
@@ -73,9 +73,7 @@ fn whole_root(m: u64) -> u64
         left: w << 2,
         count: 1,
     };
-    let mut turns = 6u64;
-    while turns > 0 {
-        turns -= 1;
+    for turns in (0..6u64).rev() {
         t = turn(t, (53 >> turns) + 1);
     }
     t.root
@@ -88,7 +86,7 @@ fn root_pattern(m: u64, a: u64) -> u64
     requires { (2 ^ 52 ≤ m) × (m < 2 ^ 53) × (1000 ≤ a) × (a < 4000) }
     ensures { result ≡ to_bits binary64 (root_of (m * 2 ^ a)) }
 {
-    let even = if a % 2 == 0 { m } else { m * 2 };
+    let even = m * (1 + a % 2);
     let root = whole_root(even);
     (a / 2 - 26) * 4503599627370496 + (root + 1) / 2
 }

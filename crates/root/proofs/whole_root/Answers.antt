@@ -1,16 +1,10 @@
--- `root::whole_root` meets its contract, by `proofs/Turns.antt`. The measure is how many turns are to come. Assumes nothing.
+-- `root::whole_root` meets its contract, by `proofs/Turns.antt`. Assumes nothing.
 use native.Mathlib.Omega.{arith}
 use Rattle.root.proofs.Turns.{start, asked, again, root_found}
 use Rattle.root.proofs.whole_root.Goals as goal
 
 pub loop-turns-init : goal.loop-turns-init
 loop-turns-init c = start c.args.m c.requires.0 c.requires.1
-
-pub overflow_shr-turns : goal.overflow_shr-turns
-overflow_shr-turns c = omega (arith, c.loop-turns.invariant.few)
-
-pub overflow_add-turns : goal.overflow_add-turns
-overflow_add-turns c = omega (arith, asked c.loop-turns.invariant (omega arith))
 
 pub turn-t-requires : goal.turn-t-requires
 turn-t-requires c = asked c.loop-turns.invariant (omega arith)
