@@ -3,6 +3,15 @@ use call_list::Reply;
 use changes::Tally;
 use std::alloc::{AllocError, Global};
 
+// How many words and coordinates a map's tables have, and how many words a set's; and room for a file that a line gives or a set makes.
+const MAP_WORDS: usize = 13671;
+
+const MAP_COORDS: usize = 105280;
+
+const SET_WORDS: usize = 3556;
+
+const FILE_BYTES: usize = 262144;
+
 // What the next line may expect.
 #[derive(Clone, Copy)]
 pub enum Due {
@@ -38,11 +47,11 @@ pub struct State {
 impl State {
     pub fn new(alloc: Global) -> Result<State, AllocError> {
         Ok(State {
-            words: vec![in alloc; 0; 13671]?,
-            coords: vec![in alloc; 0.0; 105280]?,
-            fold: vec![in alloc; 0; 3556]?,
-            set: vec![in alloc; 0; 3556]?,
-            buffer: vec![in alloc; 0; 262144]?,
+            words: vec![in alloc; 0; MAP_WORDS]?,
+            coords: vec![in alloc; 0.0; MAP_COORDS]?,
+            fold: vec![in alloc; 0; SET_WORDS]?,
+            set: vec![in alloc; 0; SET_WORDS]?,
+            buffer: vec![in alloc; 0; FILE_BYTES]?,
             tally: Tally {
                 created: 0,
                 modified: 0,
