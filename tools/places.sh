@@ -104,7 +104,7 @@ function nothing(   i, j, none, last, line, found, t) {  # 1c.6: a number for no
         if (line ~ (" => " none ",?$")) for (j = 1; j <= rows; j++) if (row[j] ~ / => ([^0-9A-Z]|[A-Z][a-z])/) found = 1
         if (line ~ (" else \\{ " none " \\}") && line !~ /\{ [0-9.]+ \} else/) found = 1
         if (line ~ ("^ *" none "$") && row[i - 1] ~ /else \{$/ && row[i - 2] !~ /^ *[0-9.]+$/) found = 1
-        if (line ~ ("return " last ";") && last ~ /^[a-z_]+$/) for (j = i; j >= 1; j--) if (row[j] ~ /^ *while / && has(row[j], last)) found = 1
+        if (last ~ /^[a-z_]+$/ && line ~ ("return " last ";")) for (j = i; j >= 1; j--) if (row[j] ~ /^ *while / && has(row[j], last)) found = 1
         if (last ~ ("^" none "$") && line ~ /return / && line !~ /return [0-9][0-9a-zA-Z_.]*;/) found = 1
     }
     if (found) add("1c.6")
