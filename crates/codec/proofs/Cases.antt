@@ -6,14 +6,12 @@ use mathlib.Core.List.{[], ◌∷◌, map}
 use native.Mathlib.Omega.{arith}
 use lib.IntN.{pos}
 use lib.Ieee.{fin, binary64, of_bits, to_bits}
-use Rattle.codec.specs.Format
 use Rattle.codec.specs.Format.{Bytes, fault, got}
 use Rattle.codec.specs.Number.{number}
 use Rattle.codec.specs.Double.{double}
 use Rattle.codec.specs.Items.{list, flag, open_items}
-use Rattle.codec.specs.Answers.{number_of, NumberRead, DoubleRead}
-use Rattle.codec.specs.declared.Number.TheVariants as N
-use Rattle.codec.specs.declared.Double.TheVariants as D
+use Rattle.codec.specs.Answers.{read_of, NumberRead, DoubleRead}
+use Rattle.std.specs.Prelude.{Some}
 
 abbrev largest : Bytes
 largest = 0xff ∷ 0xff ∷ 0xff ∷ 0xff ∷ 0xff ∷ 0xff ∷ 0xff ∷ 0xff ∷ 0xff ∷ 1 ∷ []
@@ -33,15 +31,15 @@ unfolding open_items
 faults = refl
 
 -- A place past the end leaves what the right one leaves, and is refused all the same.
-same_left : number_of (5 ∷ []) (N.Got 5 1000) ≡ number.read (5 ∷ [])
+same_left : read_of (5 ∷ []) (Some (5, 1000)) ≡ number.read (5 ∷ [])
 unfolding open_items
 same_left = refl
 
-far_number : NumberRead (5 ∷ []) 0 (N.Got 5 1000) → ⊥
+far_number : NumberRead (5 ∷ []) 0 (Some (5, 1000)) → ⊥
 unfolding open_items
 far_number h = let e : ◌≡◌ {A = ℕ} 1000 1 = h.place 5 1000 refl in omega arith
 
-far_double : (s : Bytes) → DoubleRead s 0 (D.Got (fin false 1 (pos 0)) 1000) → ⊥
+far_double : (s : Bytes) → DoubleRead s 0 (Some (fin false 1 (pos 0), 1000)) → ⊥
 far_double s h = let e : ◌≡◌ {A = ℕ} 1000 8 = h.place (fin false 1 (pos 0)) 1000 refl in omega arith
 
 -- a count of 2 ^ 63 with nothing behind it is a fault at once; a flag is 0 or 1

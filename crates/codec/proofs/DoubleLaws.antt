@@ -5,7 +5,6 @@ use mathlib.Core.Bool.{true, not}
 use mathlib.Core.List.{[], ◌∷◌}
 use native.Mathlib.Omega.{arith}
 use native.Mathlib.Nat.{pow-suc, pow-le-pow_right}
-use native.Mathlib.Numerals.{add-one}
 use lib.Dec.{T, ltb}
 use lib.ListN.{length, get_or, drop, set, length-set, length-drop}
 use lib.Seq.{drop-cons, sets}
@@ -16,48 +15,46 @@ use Rattle.codec.specs.Format.{Bytes, fault, got, both}
 use Rattle.codec.specs.Number.{split}
 use Rattle.codec.specs.Double.{low_bytes, read_low, double, holds}
 use Rattle.codec.specs.Answers.{DoubleRead}
-use Rattle.codec.specs.declared.Double.TheVariants as D
+use Rattle.std.specs.Prelude.{Some, None}
+use Rattle.std.proofs.lemmas.Option.{some_pair_parts}
 
 -- ---- eight bytes
 
--- the top k of the eight bytes give n
+-- the bytes from place k on, of the eight, give n
 pub record Low (s : Bytes) (at n k : ℕ) : Type 0 where
   pub few : k ≤ 8
-  pub small : n < 256 ^ k
-  pub goes : read_low k (drop (at + (8 - k)) s) ≡ got n (drop (at + 8) s)
+  pub small : n < 256 ^ (8 - k)
+  pub goes : read_low (8 - k) (drop (at + k) s) ≡ got n (drop (at + 8) s)
 
-pub low_starts : (s : Bytes) (at : ℕ) → Low s at 0 0
+pub low_starts : (s : Bytes) (at : ℕ) → Low s at 0 8
 unfolding read_low
 low_starts s at = record { few = omega arith; small = omega arith; goes = refl }
 
 module _ (s : Bytes) (at n k : ℕ) (r : Low s at n k) where
-  low_limit : k < 8 → n < 2 ^ 56
-  low_limit f = omega (arith, r.small, pow-le-pow_right {n = 256} (omega arith) {i = k} {j = 7} (omega arith))
+  low_limit : 0 < k → n < 2 ^ 56
+  low_limit f = omega (arith, r.small, pow-le-pow_right {n = 256} (omega arith) {i = 8 - k} {j = 7} (omega arith))
 
-  pub low_room : k < 8 → n * 256 < 2 ^ 64
+  pub low_room : 0 < k → n * 256 < 2 ^ 64
   low_room f = omega (arith, low_limit f)
 
-  pub low_sum : k < 8 → (b : ℕ) → b < 256 → n * 256 + b < 2 ^ 64
+  pub low_sum : 0 < k → (b : ℕ) → b < 256 → n * 256 + b < 2 ^ 64
   low_sum f b u = omega (arith, low_limit f)
 
-  pub low_more : k < 8 → at + 8 ≤ length s → get_or s (at + (7 - k)) 0 < 256 → Low s at (n * 256 + get_or s (at + (7 - k)) 0) (k + 1)
+  pub low_more : 0 < k → at + 8 ≤ length s → get_or s (at + (k - 1)) 0 < 256 → Low s at (n * 256 + get_or s (at + (k - 1)) 0) (k - 1)
   unfolding read_low
   low_more f h u =
-      let b : ℕ = get_or s (at + (7 - k)) 0 in
-      let p : 8 - suc k ≡ 7 - k = omega arith in
-      let q : suc (at + (7 - k)) ≡ at + (8 - k) = omega arith in
+      let b : ℕ = get_or s (at + (k - 1)) 0 in
+      let p : 8 - (k - 1) ≡ suc (8 - k) = omega (arith, r.few) in
+      let q : suc (at + (k - 1)) ≡ at + k = omega arith in
       let v : b + 256 * n ≡ n * 256 + b = omega arith in
       record {
-        few = omega arith;
-        small = rw (add-one k, pow-suc) (omega (arith, r.small));
-        goes = rw (add-one k, p, drop-cons s (at + (7 - k)) 0 (omega arith), lt-ltb b 256 u, q, r.goes, v);
+        few = omega (arith, r.few);
+        small = rw (p, pow-suc) (omega (arith, r.small));
+        goes = rw (p, drop-cons s (at + (k - 1)) 0 (omega (arith, r.few)), lt-ltb b 256 u, q, r.goes, v);
       }
 
-  pub low_ends : 8 ≤ k → read_low 8 (drop at s) ≡ got n (drop (at + 8) s)
-  low_ends f =
-      let e : k ≡ 8 = omega (arith, r.few) in
-      let z : at + (8 - k) ≡ at = omega arith in
-      rw (z, e) at r.goes
+pub low_ends : (s : Bytes) (at n : ℕ) → Low s at n 0 → read_low 8 (drop at s) ≡ got n (drop (at + 8) s)
+low_ends s at n r = let z : at + 0 ≡ at = omega arith in rw z at r.goes
 
 pub low_short : (k : ℕ) (s : Bytes) → length s < k → read_low k s ≡ fault
 unfolding read_low
@@ -119,11 +116,11 @@ module _ (s : Bytes) (at : ℕ) where
     unfolding double
     double_got h = rw (e, nan_test n, le-ltb 0x7FF0_0000_0000_0000 (n % 2 ^ 63) h)
 
-  pub double_fault : fault ≡ double.read (drop at s) → DoubleRead s at D.Fault
+  pub double_fault : fault ≡ double.read (drop at s) → DoubleRead s at None
   double_fault e = record { read = e; place = λ x n f. absurd (let z : ◌≡◌ {A = ℕ} 0 1 = cc in let q : ⊥ = omega arith in q) }
 
-  pub double_there : (x : Float) → got x (drop (at + 8) s) ≡ double.read (drop at s) → DoubleRead s at (D.Got x (at + 8))
-  double_there x e = record { read = e; place = λ y n f. cc }
+  pub double_there : (x : Float) → got x (drop (at + 8) s) ≡ double.read (drop at s) → DoubleRead s at (Some (x, at + 8))
+  double_there x e = record { read = e; place = λ y n f. sym (some_pair_parts x y (at + 8) n f).1 }
 
 pub ruleset reading_double = (double_fault, double_there, double_short, double_cut, double_nan, double_got, no_nan)
 

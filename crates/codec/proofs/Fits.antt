@@ -1,7 +1,7 @@
 -- Which lists and options fit: as many as the format has room for, and each of them.
 use mathlib.Core.Path.{◌≡◌, refl, sym, ap, ◌∙◌}
 use mathlib.Core.Bool.{true}
-use mathlib.Core.Option.{none, some}
+use Rattle.std.specs.Prelude.{None, Some}
 use mathlib.Core.List.{List, ◌++◌}
 use Prim.Native.Nat.{ℕ, ◌^◌, ◌<◌}
 use lib.Dec.{leb}
@@ -36,15 +36,15 @@ module _ {A : Type 0} (n : ℕ) (f : Format A) (xs : List A) where
   list_fits k l e = and_i _ _ (and_i (number.fits (length xs)) _ (number_fits (length xs) (let u = leb-true (length xs) n l in omega arith)) l) e
 
 module _ {A : Type 0} (f : Format A) where
-  pub option_fits : (a : A) → f.fits a ≡ true → (option f).fits (some a) ≡ true
+  pub option_fits : (a : A) → f.fits a ≡ true → (option f).fits (Some a) ≡ true
   unfolding option via tagged number
   option_fits a h = h
 
-  pub fits_option : (a : A) → (option f).fits (some a) ≡ true → f.fits a ≡ true
+  pub fits_option : (a : A) → (option f).fits (Some a) ≡ true → f.fits a ≡ true
   unfolding option via tagged number
   fits_option a h = h
 
-  pub none_fits : (option f).fits none ≡ true
+  pub none_fits : (option f).fits None ≡ true
   unfolding option via tagged number nothing
   none_fits = refl
 

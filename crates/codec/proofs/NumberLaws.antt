@@ -12,21 +12,21 @@ use borrow.Author.Tests.{lt-ltb, le-ltb, ltb-true}
 use Rattle.codec.specs.Format.{Bytes, fault, got}
 use Rattle.codec.specs.Answers.{NumberRead, Wrote}
 use Rattle.codec.specs.Number.{number, groups, groups_from, last_group, split}
-use Rattle.codec.specs.declared.Number.TheVariants as N
+use Rattle.std.specs.Prelude.{Some, None}
+use Rattle.std.proofs.lemmas.Option.{some_pair_parts}
 
 -- a number that ends at n, within the bytes: its written form stands there, so n is the place after it
-number_got : (s : Bytes) (at v n : ℕ) → at ≤ n → n ≤ length s → got v (drop n s) ≡ number.read (drop at s) → NumberRead s at (N.Got v n)
+number_got : (s : Bytes) (at v n : ℕ) → at ≤ n → n ≤ length s → got v (drop n s) ≡ number.read (drop at s) → NumberRead s at (Some (v, n))
 number_got s at v n l h e =
     let form : length (drop at s) ≡ length (number.write v ++ drop n s) = ap length (number.back (drop at s) v (drop n s) (sym e)).1 in
     record {
       read = e;
       place = λ u m f.
-          let x : v ≡ u = cc in
-          let y : n ≡ m = cc in
-          rw (← x, ← y) (omega (arith, simp (length-append, length-drop) at form));
+          let p = some_pair_parts v u n m f in
+          rw (← p.0, ← p.1) (omega (arith, simp (length-append, length-drop) at form));
     }
 
-pub number_fault : (s : Bytes) (at : ℕ) → fault ≡ number.read (drop at s) → NumberRead s at N.Fault
+pub number_fault : (s : Bytes) (at : ℕ) → fault ≡ number.read (drop at s) → NumberRead s at None
 number_fault s at e = record { read = e; place = λ v n f. absurd (let z : ◌≡◌ {A = ℕ} 0 1 = cc in let q : ⊥ = omega arith in q) }
 
 -- After k groups, which give n, the rest of the number starts at i with the given weight.
@@ -54,10 +54,10 @@ module _ (s : Bytes) (at n w i k : ℕ) (r : Reading s at n w i k) where
     unfolding groups_from
     last l = sym r.goes ∙ rw (drop-cons s i 0 h, lt-ltb (get_or s i 0) 128 l, add-one i)
 
-    ends_here : (v : ℕ) → got v (drop (i + 1) s) ≡ number.read (drop at s) → NumberRead s at (N.Got v (i + 1))
+    ends_here : (v : ℕ) → got v (drop (i + 1) s) ≡ number.read (drop at s) → NumberRead s at (Some (v, i + 1))
     ends_here v e = number_got s at v (i + 1) (omega (arith, r.on)) (omega arith) e
 
-    pub alone : b < 128 → k ≡ 0 → NumberRead s at (N.Got b (i + 1))
+    pub alone : b < 128 → k ≡ 0 → NumberRead s at (Some (b, i + 1))
     unfolding last_group
     alone l z =
         let w1 : w ≡ 1 = r.weighs ∙ ap (λ m. 128 ^ m) z in
@@ -81,7 +81,7 @@ module _ (s : Bytes) (at n w i k : ℕ) (r : Reading s at n w i k) where
     unfolding last_group
     zero_last l z e = rw (last l, le-ltb w 2 (heavy z), e)
 
-    pub on_top : b < 128 → (k ≡ 0 → ⊥) → (b ≡ 0 → ⊥) → k < 9 → NumberRead s at (N.Got (n + b * w) (i + 1))
+    pub on_top : b < 128 → (k ≡ 0 → ⊥) → (b ≡ 0 → ⊥) → k < 9 → NumberRead s at (Some (n + b * w, i + 1))
     unfolding last_group
     on_top l z e f = ends_here (n + b * w) (rw (last l, le-ltb w 2 (heavy z), lt-ltb 0 b (omega arith), lt-ltb (n + b * w) (2 ^ 64) (sum l f)))
 
@@ -117,7 +117,7 @@ module _ (s : Bytes) (at n w i k : ℕ) (r : Reading s at n w i k) where
     pub top_sum : 9 ≤ k → n + w < 2 ^ 64
     top_sum f = omega (arith, (top f).1, r.low)
 
-    pub tenth : 9 ≤ k → b ≡ 1 → NumberRead s at (N.Got (n + w) (i + 1))
+    pub tenth : 9 ≤ k → b ≡ 1 → NumberRead s at (Some (n + w, i + 1))
     unfolding last_group
     tenth f e =
         let m : 1 * w ≡ w = omega arith in

@@ -1,9 +1,8 @@
 -- Formats: how the values of a type are written as bytes, and how they are read. No format is made without its two laws.
 use Prim.Native.Nat.{ℕ, zero, suc}
-use Rattle.std.specs.Prelude.{◌≡◌, Bool, true, false, ◌&&◌, cond, length}
+use Rattle.std.specs.Prelude.{◌≡◌, Bool, true, false, ◌&&◌, cond, length, Option, None, Some}
 use Rattle.std.proofs.Math.Path.{refl}
 use Rattle.std.proofs.Common.{sym, ap, ◌∙◌, arith}
-use Rattle.std.proofs.Math.Option.{Option, none, some}
 use mathlib.Core.List.{List, [], ◌∷◌, ◌++◌, append_assoc, append-nil}
 use Rattle.rows.specs.Lists.{every, joined, open_lists}
 
@@ -183,27 +182,27 @@ module _ {A : Type 0} (f : Format A) where
 
 module _ {A : Type 0} (f : Format A) where
   unfoldable pub ended : Read A → Option A
-  ended fault = none
-  ended (got a []) = some a
-  ended (got a (b ∷ s)) = none
+  ended fault = None
+  ended (got a []) = Some a
+  ended (got a (b ∷ s)) = None
 
   -- the value whose written form the bytes are
   unfoldable pub file_of : Bytes → Option A
   file_of s = ended (f.read s)
 
   -- a value that fits has a file, and it is read as that value
-  pub file_there : (a : A) → f.fits a ≡ true → file_of (f.write a) ≡ some a
+  pub file_there : (a : A) → f.fits a ≡ true → file_of (f.write a) ≡ Some a
   unfolding file_of ended
   file_there a h = rw (rw append-nil at (f.there a [] h))
 
-  ended_got : (r : Read A) (a : A) → ended r ≡ some a → r ≡ got a []
+  ended_got : (r : Read A) (a : A) → ended r ≡ Some a → r ≡ got a []
   unfolding ended
   ended_got fault a h = cc
   ended_got (got b []) a h = cc
   ended_got (got b (x ∷ s)) a h = cc
 
   -- bytes that are read as a value are its file, so it has no other
-  pub file_back : (s : Bytes) (a : A) → file_of s ≡ some a → (f.fits a ≡ true) × (s ≡ f.write a)
+  pub file_back : (s : Bytes) (a : A) → file_of s ≡ Some a → (f.fits a ≡ true) × (s ≡ f.write a)
   unfolding file_of
   file_back s a h = rw append-nil at (f.back s a [] (ended_got (f.read s) a h))
 

@@ -1,6 +1,5 @@
 -- Numbers in a range, flags, lists and options.
-use Rattle.std.specs.Prelude.{ℕ, zero, suc, ◌≡◌, refl, Bool, true, false, cond, List, ltb, leb, eqb}
-use Rattle.std.proofs.Math.Option.{Option, none, some}
+use Rattle.std.specs.Prelude.{ℕ, zero, suc, ◌≡◌, refl, Bool, true, false, cond, List, ltb, leb, eqb, Option, None, Some}
 use Rattle.std.proofs.Common.{arith, ltb-true}
 use Rattle.codec.specs.Format.{Format, via, only, tagged, nothing, never, counted, both, open_format}
 use Rattle.codec.specs.Number.{number, open_number}
@@ -41,13 +40,13 @@ module _ {A : Type 0} where
   maybe f (suc (suc k)) = never
 
   abbrev pub to_option : (k : ℕ) → Maybe A k → Option A
-  to_option zero x = none
-  to_option (suc zero) a = some a
+  to_option zero x = None
+  to_option (suc zero) a = Some a
   to_option (suc (suc k)) x = absurd x
 
   abbrev pub of_option : Option A → (k : ℕ) × Maybe A k
-  of_option none = (0, tt)
-  of_option (some a) = (1, a)
+  of_option None = (0, tt)
+  of_option (Some a) = (1, a)
 
   pub option_there : (f : Format A) (p : (k : ℕ) × Maybe A k) → (tagged number (maybe f)).fits p ≡ true → of_option (to_option p.0 p.1) ≡ p
   option_there f p h = go p.0 p.1
@@ -58,8 +57,8 @@ module _ {A : Type 0} where
       go (suc (suc k)) x = absurd x
 
   pub option_back : (o : Option A) → to_option (of_option o).0 (of_option o).1 ≡ o
-  option_back none = refl
-  option_back (some a) = refl
+  option_back None = refl
+  option_back (Some a) = refl
 
   -- 0, or 1 and the value
   unfoldable pub option : Format A → Format (Option A)

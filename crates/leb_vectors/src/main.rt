@@ -2,105 +2,87 @@
 // are no number. Each number is written and read back, each form read; what comes out is held to the file stdout.
 #![tactic(auto)]
 
-ghost use Rattle.std.specs.Prelude.{◌≤◌, length};
+use std::{fmt, io};
 
-// The first n bytes, two hexadecimal digits each.
-fn show_bytes(s: &[u8], n: usize)
-    requires { n ≤ length s.now }
-{
-    let mut i = 0;
-    while i < n {
-        io::write_all(1, b" ");
-        io::print_hex(1, wide(s[i]), 2);
-        i += 1;
+const NUMBERS: [u64; 27] = [
+    2,
+    127,
+    128,
+    129,
+    130,
+    12857,
+    0,
+    1,
+    300,
+    624485,
+    16383,
+    16384,
+    2097151,
+    2097152,
+    268435455,
+    268435456,
+    34359738367,
+    34359738368,
+    4398046511103,
+    4398046511104,
+    562949953421311,
+    562949953421312,
+    72057594037927935,
+    72057594037927936,
+    9223372036854775807,
+    9223372036854775808,
+    18446744073709551615,
+];
+
+// Bytes, two hexadecimal digits each, and what stands there: a number and where it ends, or a fault.
+#[derive(Drop)]
+struct Form<'a> {
+    shown: &'a [u8],
+    bytes: &'a [u8],
+}
+
+impl<'a> fmt::Display for Form<'a> {
+    fn fmt<W: fmt::Write>(&self, f: &mut fmt::Formatter<W>) -> fmt::Result {
+        for b in self.shown {
+            write!(f, " {b:02x}")?;
+        }
+        match codec::read_number(self.bytes, 0) {
+            Some((n, next)) => write!(f, " = {n} up to {next}"),
+            None => write!(f, " fault"),
+        }
     }
 }
 
-fn wide(b: u8) -> u64 {
-    b as u64
-}
-
-// What stands there: a number and where it ends, or a fault.
-fn show_read(s: &[u8]) {
-    match codec::read_number(s, 0) {
-        codec::Number::Got(n, next) => {
-            io::write_all(1, b" = ");
-            io::print_decimal(1, n);
-            io::write_all(1, b" up to ");
-            io::print_decimal(1, next as u64);
-        }
-        codec::Number::Fault => {
-            io::write_all(1, b" fault");
-        }
-    }
-    io::write_all(1, b"\n");
-}
-
-// A number written, and read back.
-fn written(n: u64) {
-    let mut buf: [u8; 10] = [0; 10];
+// A number written, and read back. No number has more than ten bytes.
+fn written(rt: &impl Print, n: u64) -> io::Result<()> {
+    let mut buf = [0; 10];
     let size = codec::write_number(&mut buf, 0, n);
-    io::print_decimal(1, n);
-    io::write_all(1, b":");
-    show_bytes(&buf, size);
-    show_read(&buf);
+    let read = Form {
+        shown: &buf[..size],
+        bytes: &buf,
+    };
+    println!(rt; "{n}:{read}")
 }
 
-fn read(s: &[u8]) {
-    show_bytes(s, s.len());
-    show_read(s);
+fn show(rt: &impl Print, s: &[u8]) -> io::Result<()> {
+    let read = Form { shown: s, bytes: s };
+    println!(rt; "{read}")
 }
 
-fn small_numbers() {
-    written(2);
-    written(127);
-    written(128);
-    written(129);
-    written(130);
-    written(12857);
-    written(0);
-    written(1);
-    written(300);
-    written(624485);
-    written(16383);
-    written(16384);
-    written(2097151);
-}
-
-fn large_numbers() {
-    written(2097152);
-    written(268435455);
-    written(268435456);
-    written(34359738367);
-    written(34359738368);
-    written(4398046511103);
-    written(4398046511104);
-    written(562949953421311);
-    written(562949953421312);
-    written(72057594037927935);
-    written(72057594037927936);
-    written(9223372036854775807);
-    written(9223372036854775808);
-    written(18446744073709551615);
-}
-
-fn forms() {
-    read(b"");
-    read(b"\x80");
-    read(b"\x80\x00");
-    read(b"\x81\x80\x00");
-    read(b"\xff\xff\xff\xff\xff\xff\xff\xff\xff\x02");
-    read(b"\xff\xff\xff\xff\xff\xff\xff\xff\xff\x81\x00");
-    read(b"\xff\xff\xff\xff\xff\xff\xff\xff\xff\xff");
-    read(b"\x80\x80\x80\x80\x80\x80\x80\x80\x80\x01");
-    read(b"\x7f\x09");
-    read(b"\x05");
-    read(b"\x80\x80\x80\x80\x80\x80\x80\x80\x80\x00");
-    read(b"\x80\x80\x80\x80\x80\x80\x80\x80\x80\x80\x01");
-}
-
-fn main() {
-    small_numbers();
-    large_numbers();
-    forms();
+fn main(rt: HostRuntime) -> io::Result<()> {
+    for n in NUMBERS {
+        written(&rt, n)?;
+    }
+    show(&rt, b"")?;
+    show(&rt, b"\x80")?;
+    show(&rt, b"\x80\x00")?;
+    show(&rt, b"\x81\x80\x00")?;
+    show(&rt, b"\xff\xff\xff\xff\xff\xff\xff\xff\xff\x02")?;
+    show(&rt, b"\xff\xff\xff\xff\xff\xff\xff\xff\xff\x81\x00")?;
+    show(&rt, b"\xff\xff\xff\xff\xff\xff\xff\xff\xff\xff")?;
+    show(&rt, b"\x80\x80\x80\x80\x80\x80\x80\x80\x80\x01")?;
+    show(&rt, b"\x7f\x09")?;
+    show(&rt, b"\x05")?;
+    show(&rt, b"\x80\x80\x80\x80\x80\x80\x80\x80\x80\x00")?;
+    show(&rt, b"\x80\x80\x80\x80\x80\x80\x80\x80\x80\x80\x01")
 }

@@ -1,7 +1,7 @@
 -- A map, part by part: what a map file asks of each table, and when a record fits its format.
 use mathlib.Core.Path.{◌≡◌, refl}
 use mathlib.Core.Bool.{Bool, true, ◌&&◌}
-use mathlib.Core.Option.{Option, none, some}
+use Rattle.std.specs.Prelude.{Option, None, Some}
 use mathlib.Core.List.{List, [], ◌∷◌}
 use Prim.Native.Nat.{ℕ, ◌^◌, ◌<◌, ◌≤◌}
 use lib.Dec.{leb, ltb}
@@ -120,13 +120,13 @@ point_fits p h =
 module _ {A : Type 0} (f : Format A) where
   pub if_option : (o : Option A) → if_there f.fits o ≡ true → (option f).fits o ≡ true
   unfolding if_there
-  if_option none h = none_fits f
-  if_option (some a) h = option_fits f a h
+  if_option None h = none_fits f
+  if_option (Some a) h = option_fits f a h
 
   pub option_if : (o : Option A) → (option f).fits o ≡ true → if_there f.fits o ≡ true
   unfolding if_there
-  option_if none h = refl
-  option_if (some a) h = fits_option f a h
+  option_if None h = refl
+  option_if (Some a) h = fits_option f a h
 
 -- ---- what a record may hold, its number and its ceilings apart
 
@@ -198,18 +198,18 @@ few_numbers ns h = list_few max_rule_entries number ns h
 
 shape_fits : (o : Option Polyline) → if_there line_ok_lem o ≡ true → if_there line_within o ≡ true → if_there polyline.fits o ≡ true
 unfolding if_there
-shape_fits none o w = refl
-shape_fits (some xs) o w = polyline_fits xs o w
+shape_fits None o w = refl
+shape_fits (Some xs) o w = polyline_fits xs o w
 
 fits_shape : (o : Option Polyline) → if_there polyline.fits o ≡ true → if_there line_ok_lem o ≡ true
 unfolding if_there
-fits_shape none h = refl
-fits_shape (some xs) h = fits_line xs h
+fits_shape None h = refl
+fits_shape (Some xs) h = fits_line xs h
 
 within_shape : (o : Option Polyline) → if_there polyline.fits o ≡ true → if_there line_within o ≡ true
 unfolding if_there line_within polyline
-within_shape none h = refl
-within_shape (some xs) h = list_few max_line_points point xs h
+within_shape None h = refl
+within_shape (Some xs) h = list_few max_line_points point xs h
 
 body_fits : (w : RuleBody) → body_ok_lem w ≡ true → body_within w ≡ true → body.fits w ≡ true
 unfolding body via tagged ◌⊗◌ number body_ok_lem body_within

@@ -1,7 +1,7 @@
 -- Records that a map has: present where they have a written form, and numbered below the next number.
 use mathlib.Core.Path.{◌≡◌, refl}
 use mathlib.Core.Bool.{true}
-use mathlib.Core.Option.{Option, none, some}
+use Rattle.std.specs.Prelude.{Option, None, Some}
 use mathlib.Core.List.{List}
 use Prim.Native.Nat.{ℕ, ◌^◌, ◌<◌}
 use lib.Dec.{ltb}
@@ -22,8 +22,8 @@ use Rattle.map.proofs.Parts.{map-parts}
 
 pub some_form : {A : Type 0} (w : A → Bytes) (o : Option A) → is_some o ≡ is_some (form_in w o)
 unfolding form_in
-some_form w none = refl
-some_form w (some x) = refl
+some_form w None = refl
+some_form w (Some x) = refl
 
 pub has_form : (m : Map) (a : EntityRef) → has m a ≡ is_some (form_of m a)
 unfolding has form_of
@@ -48,8 +48,8 @@ module _ (m : Map) (ok : is_map m ≡ true) where
   held_below num t n r h = go (find num n t) refl (rw (holds_found num n t) at h)
     where
       go : (o : Option _) → find num n t ≡ o → is_some o ≡ true → n < m.next
-      go none e k = clash k refl
-      go (some x) e k = let w = found_is num n t (λ y. ltb (num y) m.next) x (rising_below num 0 m.next t r) e in
+      go None e k = clash k refl
+      go (Some x) e k = let w = found_is num n t (λ y. ltb (num y) m.next) x (rising_below num 0 m.next t r) e in
           let u = ltb-true (num x) m.next w.0 in let v = w.1 in omega arith
 
   pub has_below : (a : EntityRef) → has m a ≡ true → a.num < m.next

@@ -2,7 +2,6 @@
 use Prim.Native.Nat.{ℕ, ◌+◌, ◌-◌, ◌*◌, ◌/◌, ◌≤◌, ◌<◌}
 use mathlib.Core.Path.{◌≡◌, refl, sym, ap, ◌∙◌}
 use mathlib.Core.Bool.{Bool, true, false, not, cond}
-use mathlib.Core.Option.{Option, none, some}
 use mathlib.Core.List.{List}
 use native.Mathlib.Nat.{add-zero, add_assoc}
 use native.Mathlib.Omega.{arith}
@@ -18,12 +17,13 @@ use Rattle.rows.proofs.Indexed.{list_to_same, list_to-cut}
 use Rattle.store.specs.Layout.{width_of, base_of, limit_of, place_of, coord_place_of, coord_width_of, count_of, row_of, coords_of, records_of, SizedWords, all_words, all_coords}
 use Rattle.store.proofs.StoreLaws.{row_ends, coords_end}
 use Rattle.store.proofs.FindLaws.{find_record, holds_record}
-use Rattle.map.specs.declared.Found.TheVariants.{At, Nothing}
+use Rattle.std.specs.Prelude.{Some, None, Option}
+use Rattle.std.specs.Bool.{then_some}
 use Rattle.map.specs.Record.{BoundaryRef, LineString, Map}
 use Rattle.map.specs.Entity.{has}
 use Rattle.map.specs.Lookup.{lane_of, boundary_of, line_of, signal_of, rule_of, oriented}
 use Rattle.map.specs.Tables.{flag_at, list_at, point_from, line_at, lane_in, line_string_in, signal_in, crosswalk_in, rule_in, map_of}
-use Rattle.map.specs.Access.{index_in, lookup, lane_of_row, LaneRead, HasRead, HeadRead, ListRead}
+use Rattle.map.specs.Access.{index_in, lookup, centerline_of_row, lane_of_row, LaneRead, HasRead, HeadRead, ListRead}
 
 -- ---- words
 
@@ -42,6 +42,10 @@ rule_word ws i o h = get_or_row ws 5 i o h
 first_word : (ws : List ℕ) (p : ℕ) → get_or ws (p + 0) 0 ≡ get_or ws p 0
 first_word ws p = rw add-zero
 
+centerline_is : (c : List Float) (b : Bool) (n : ℕ) → centerline_of_row (then_some b n) c ≡ cond b (Some (line_at c 0 n)) None
+centerline_is c true n = refl
+centerline_is c false n = refl
+
 pub lane_read : (ws : List ℕ) (i : ℕ)
     → LaneRead (row_of ws 0 i)
     (record {
@@ -51,13 +55,13 @@ pub lane_read : (ws : List ℕ) (i : ℕ)
       left_reversed = not (eqb (get_or ws (7 + i * 8 + 3) 0) 0);
       right = get_or ws (7 + i * 8 + 4) 0;
       right_reversed = not (eqb (get_or ws (7 + i * 8 + 5) 0) 0);
-      has_centerline = not (eqb (get_or ws (7 + i * 8 + 6) 0) 0);
-      points = get_or ws (7 + i * 8 + 7) 0;
+      centerline = then_some (not (eqb (get_or ws (7 + i * 8 + 6) 0) 0)) (get_or ws (7 + i * 8 + 7) 0);
     })
 unfolding lane_of_row lane_in flag_at
 lane_read ws i =
     record {
       lane = λ c. rw (
+        centerline_is c (not (eqb (get_or ws (7 + i * 8 + 6) 0) 0)) (get_or ws (7 + i * 8 + 7) 0),
         lane_word ws i 0 (omega arith),
         first_word ws (7 + i * 8),
         lane_word ws i 1 (omega arith),
@@ -190,11 +194,11 @@ points_part cs ok k i o n at hk hi h e =
 
 -- ---- look-ups
 
-pub find_at : (ws : List ℕ) (k x i n : ℕ) → i ≡ index_in ws k x → n ≡ count_of ws k → i < n → At i ≡ lookup ws k x
+pub find_at : (ws : List ℕ) (k x i n : ℕ) → i ≡ index_in ws k x → n ≡ count_of ws k → i < n → Some i ≡ lookup ws k x
 unfolding lookup
 find_at ws k x i n ei en h = rw (← ei, ← en, lt-ltb i n h)
 
-pub find_none : (ws : List ℕ) (k x i n : ℕ) → i ≡ index_in ws k x → n ≡ count_of ws k → n ≤ i → Nothing ≡ lookup ws k x
+pub find_none : (ws : List ℕ) (k x i n : ℕ) → i ≡ index_in ws k x → n ≡ count_of ws k → n ≤ i → None ≡ lookup ws k x
 unfolding lookup
 find_none ws k x i n ei en h = rw (← ei, ← en, le-ltb i n h)
 
@@ -222,27 +226,27 @@ rule_number_lem r c = refl
 -- what is found is the definition's record, for every kind
 module _ {A : Type 0} (num : A → ℕ) (f : List ℕ → List Float → A) (first : (r : List ℕ) (c : List Float) → num (f r c) ≡ get_or r 0 0)
     (ws : List ℕ) (cs : List Float) (k : ℕ) (hk : k < 6) (x : ℕ) where
-  pub found_index : (i : ℕ) → lookup ws k x ≡ At i → (i ≡ index_in ws k x) × (i < count_of ws k)
+  pub found_index : (i : ℕ) → lookup ws k x ≡ Some i → (i ≡ index_in ws k x) × (i < count_of ws k)
   unfolding lookup
   found_index i e = go (ltb (index_in ws k x) (count_of ws k)) refl e
     where
-      go : (b : Bool) → ltb (index_in ws k x) (count_of ws k) ≡ b → cond b (At (index_in ws k x)) Nothing ≡ At i → (i ≡ index_in ws k x) × (i < count_of ws k)
+      go : (b : Bool) → ltb (index_in ws k x) (count_of ws k) ≡ b → then_some b (index_in ws k x) ≡ Some i → (i ≡ index_in ws k x) × (i < count_of ws k)
       go true t d = let q : i ≡ index_in ws k x = cc in (q, rw q (ltb-true (index_in ws k x) (count_of ws k) t))
       go false t d = let z : ◌≡◌ {A = ℕ} 0 1 = cc in absurd (let q : ⊥ = omega arith in q)
 
-  pub found_record : (i : ℕ) → lookup ws k x ≡ At i → find num x (records_of f ws cs k) ≡ some (f (row_of ws k i) (coords_of cs k i))
+  pub found_record : (i : ℕ) → lookup ws k x ≡ Some i → find num x (records_of f ws cs k) ≡ Some (f (row_of ws k i) (coords_of cs k i))
   unfolding index_in
   found_record i e =
       let q = found_index i e in
       let l = lt-ltb i (count_of ws k) q.1 in
       find_record num f first ws cs k hk x ∙ rw (← q.0, l)
 
-  pub none_record : lookup ws k x ≡ Nothing → find num x (records_of f ws cs k) ≡ none
+  pub none_record : lookup ws k x ≡ None → find num x (records_of f ws cs k) ≡ None
   unfolding lookup index_in
   none_record e =
       find_record num f first ws cs k hk x ∙ go (ltb (index_in ws k x) (count_of ws k)) e
     where
-      go : (b : Bool) → cond b (At (index_in ws k x)) Nothing ≡ Nothing → cond b (some (f (row_of ws k (index_in ws k x)) (coords_of cs k (index_in ws k x)))) none ≡ none
+      go : (b : Bool) → then_some b (index_in ws k x) ≡ None → cond b (Some (f (row_of ws k (index_in ws k x)) (coords_of cs k (index_in ws k x)))) None ≡ None
       go true d = let z : ◌≡◌ {A = ℕ} 0 1 = cc in absurd (let q : ⊥ = omega arith in q)
       go false d = refl
 
@@ -283,62 +287,62 @@ has_none ws x kind a b c d e f =
 -- ---- the definition's look-ups
 
 module _ (ws : List ℕ) (cs : List Float) (x i : ℕ) where
-  pub lane_found : lookup ws 0 x ≡ At i → lane_of (map_of ws cs) x ≡ some (lane_in (row_of ws 0 i) (coords_of cs 0 i))
+  pub lane_found : lookup ws 0 x ≡ Some i → lane_of (map_of ws cs) x ≡ Some (lane_in (row_of ws 0 i) (coords_of cs 0 i))
   unfolding lane_of map_of
   lane_found e = found_record (λ r. r.num) lane_in lane_number ws cs 0 (omega arith) x i e
 
-  pub boundary_found : lookup ws 1 x ≡ At i → boundary_of (map_of ws cs) x ≡ some (line_string_in (row_of ws 1 i) (coords_of cs 1 i))
+  pub boundary_found : lookup ws 1 x ≡ Some i → boundary_of (map_of ws cs) x ≡ Some (line_string_in (row_of ws 1 i) (coords_of cs 1 i))
   unfolding boundary_of map_of
   boundary_found e = found_record (λ r. r.num) line_string_in line_number ws cs 1 (omega arith) x i e
 
-  pub line_found : lookup ws 2 x ≡ At i → line_of (map_of ws cs) x ≡ some (line_string_in (row_of ws 2 i) (coords_of cs 2 i))
+  pub line_found : lookup ws 2 x ≡ Some i → line_of (map_of ws cs) x ≡ Some (line_string_in (row_of ws 2 i) (coords_of cs 2 i))
   unfolding line_of map_of
   line_found e = found_record (λ r. r.num) line_string_in line_number ws cs 2 (omega arith) x i e
 
-  pub signal_found : lookup ws 3 x ≡ At i → signal_of (map_of ws cs) x ≡ some (signal_in (row_of ws 3 i) (coords_of cs 3 i))
+  pub signal_found : lookup ws 3 x ≡ Some i → signal_of (map_of ws cs) x ≡ Some (signal_in (row_of ws 3 i) (coords_of cs 3 i))
   unfolding signal_of map_of
   signal_found e = found_record (λ r. r.num) signal_in signal_number ws cs 3 (omega arith) x i e
 
-  pub rule_found : lookup ws 5 x ≡ At i → rule_of (map_of ws cs) x ≡ some (rule_in (row_of ws 5 i) (coords_of cs 5 i))
+  pub rule_found : lookup ws 5 x ≡ Some i → rule_of (map_of ws cs) x ≡ Some (rule_in (row_of ws 5 i) (coords_of cs 5 i))
   unfolding rule_of map_of
   rule_found e = found_record (λ r. r.num) rule_in rule_number_lem ws cs 5 (omega arith) x i e
 
 module _ (ws : List ℕ) (cs : List Float) (x : ℕ) where
-  pub no_lane : lookup ws 0 x ≡ Nothing → lane_of (map_of ws cs) x ≡ none
+  pub no_lane : lookup ws 0 x ≡ None → lane_of (map_of ws cs) x ≡ None
   unfolding lane_of map_of
   no_lane e = none_record (λ r. r.num) lane_in lane_number ws cs 0 (omega arith) x e
 
-  pub no_boundary : lookup ws 1 x ≡ Nothing → boundary_of (map_of ws cs) x ≡ none
+  pub no_boundary : lookup ws 1 x ≡ None → boundary_of (map_of ws cs) x ≡ None
   unfolding boundary_of map_of
   no_boundary e = none_record (λ r. r.num) line_string_in line_number ws cs 1 (omega arith) x e
 
-  pub no_line : lookup ws 2 x ≡ Nothing → line_of (map_of ws cs) x ≡ none
+  pub no_line : lookup ws 2 x ≡ None → line_of (map_of ws cs) x ≡ None
   unfolding line_of map_of
   no_line e = none_record (λ r. r.num) line_string_in line_number ws cs 2 (omega arith) x e
 
-  pub no_signal : lookup ws 3 x ≡ Nothing → signal_of (map_of ws cs) x ≡ none
+  pub no_signal : lookup ws 3 x ≡ None → signal_of (map_of ws cs) x ≡ None
   unfolding signal_of map_of
   no_signal e = none_record (λ r. r.num) signal_in signal_number ws cs 3 (omega arith) x e
 
-  pub no_rule : lookup ws 5 x ≡ Nothing → rule_of (map_of ws cs) x ≡ none
+  pub no_rule : lookup ws 5 x ≡ None → rule_of (map_of ws cs) x ≡ None
   unfolding rule_of map_of
   no_rule e = none_record (λ r. r.num) rule_in rule_number_lem ws cs 5 (omega arith) x e
 
 -- a lane's side, along the lane: the found boundary's points and the side's flag
 along : BoundaryRef → Option LineString → Option Polyline
-along s none = none
-along s (some b) = some (cond s.reversed (reversed b.geometry) b.geometry)
+along s None = None
+along s (Some b) = Some (cond s.reversed (reversed b.geometry) b.geometry)
 
 oriented_is : (m : Map) (s : BoundaryRef) (o : Option LineString) → boundary_of m s.boundary ≡ o → oriented m s ≡ along s o
 unfolding oriented along
-oriented_is m s none e = ap (λ (o : Option LineString). elim o [ none ↦ none | some b ↦ some (cond s.reversed (reversed b.geometry) b.geometry) ]) e
-oriented_is m s (some b) e = ap (λ (o : Option LineString). elim o [ none ↦ none | some b ↦ some (cond s.reversed (reversed b.geometry) b.geometry) ]) e
+oriented_is m s None e = ap (λ (o : Option LineString). elim o [ None ↦ None | Some b ↦ Some (cond s.reversed (reversed b.geometry) b.geometry) ]) e
+oriented_is m s (Some b) e = ap (λ (o : Option LineString). elim o [ None ↦ None | Some b ↦ Some (cond s.reversed (reversed b.geometry) b.geometry) ]) e
 
-pub side_found : (ws : List ℕ) (cs : List Float) (s : BoundaryRef) (i : ℕ) → lookup ws 1 s.boundary ≡ At i
-    → oriented (map_of ws cs) s ≡ some (cond s.reversed (reversed (line_at (coords_of cs 1 i) 0 (get_or (row_of ws 1 i) 1 0))) (line_at (coords_of cs 1 i) 0 (get_or (row_of ws 1 i) 1 0)))
+pub side_found : (ws : List ℕ) (cs : List Float) (s : BoundaryRef) (i : ℕ) → lookup ws 1 s.boundary ≡ Some i
+    → oriented (map_of ws cs) s ≡ Some (cond s.reversed (reversed (line_at (coords_of cs 1 i) 0 (get_or (row_of ws 1 i) 1 0))) (line_at (coords_of cs 1 i) 0 (get_or (row_of ws 1 i) 1 0)))
 unfolding along line_string_in
-side_found ws cs s i e = oriented_is (map_of ws cs) s (some (line_string_in (row_of ws 1 i) (coords_of cs 1 i))) (boundary_found ws cs s.boundary i e)
+side_found ws cs s i e = oriented_is (map_of ws cs) s (Some (line_string_in (row_of ws 1 i) (coords_of cs 1 i))) (boundary_found ws cs s.boundary i e)
 
-pub no_side_lem : (ws : List ℕ) (cs : List Float) (s : BoundaryRef) → lookup ws 1 s.boundary ≡ Nothing → oriented (map_of ws cs) s ≡ none
+pub no_side_lem : (ws : List ℕ) (cs : List Float) (s : BoundaryRef) → lookup ws 1 s.boundary ≡ None → oriented (map_of ws cs) s ≡ None
 unfolding along
-no_side_lem ws cs s e = oriented_is (map_of ws cs) s none (no_boundary ws cs s.boundary e)
+no_side_lem ws cs s e = oriented_is (map_of ws cs) s None (no_boundary ws cs s.boundary e)

@@ -14,7 +14,7 @@ use Rattle.rows.proofs.Indexed.{get_or-list_to, length-list_to}
 use Rattle.rows.proofs.Tables.{found_is}
 use Rattle.codec.specs.Format.{both}
 use Rattle.store.specs.Layout.{count_of, row_of, coords_of, records_of}
-use Rattle.map.specs.declared.Found.TheVariants.{At}
+use Rattle.std.specs.Prelude.{Some}
 use Rattle.map.specs.Record.{Rule}
 use Rattle.map.specs.Tables.{rule_in, map_of}
 use Rattle.map.specs.Access.{lookup}
@@ -59,7 +59,7 @@ all_yes [] = refl
 all_yes (x ∷ xs) = all_yes xs
 
 -- the rule that a look-up found
-pub found_number : (ws : List ℕ) (cs : List Float) (x i : ℕ) → lookup ws 5 x ≡ At i → (rule_in (row_of ws 5 i) (coords_of cs 5 i)).num ≡ x
+pub found_number : (ws : List ℕ) (cs : List Float) (x i : ℕ) → lookup ws 5 x ≡ Some i → (rule_in (row_of ws 5 i) (coords_of cs 5 i)).num ≡ x
 found_number ws cs x i e = (found_is (λ (r : Rule). r.num) x (records_of rule_in ws cs 5) (λ _. true) (rule_in (row_of ws 5 i) (coords_of cs 5 i)) (all_yes (records_of rule_in ws cs 5)) (found_record (λ r. r.num) rule_in rule_number_lem ws cs 5 (omega arith) x i e)).1
 
 rule_at_lem : (ws : List ℕ) (cs : List Float) (i : ℕ) (z : Rule) → i < count_of ws 5 → get_or (map_of ws cs).rules i z ≡ rule_in (row_of ws 5 i) (coords_of cs 5 i)
@@ -71,7 +71,7 @@ unfolding map_of records_of
 rule_count ws cs = length-list_to _ (count_of ws 5)
 
 -- the definition's replacement is the row edit's
-pub rule_replaced : (ws : List ℕ) (cs : List Float) (x i : ℕ) → lookup ws 5 x ≡ At i → rising (λ (r : Rule). r.num) 0 (map_of ws cs).next (map_of ws cs).rules ≡ true
+pub rule_replaced : (ws : List ℕ) (cs : List Float) (x i : ℕ) → lookup ws 5 x ≡ Some i → rising (λ (r : Rule). r.num) 0 (map_of ws cs).next (map_of ws cs).rules ≡ true
     → (a : Rule) → a.num ≡ x → replaced (λ (r : Rule). r.num) a (map_of ws cs).rules ≡ set (map_of ws cs).rules i a
 rule_replaced ws cs x i e up a n =
     let here = (found_index (λ r. r.num) rule_in rule_number_lem ws cs 5 (omega arith) x i e).1 in

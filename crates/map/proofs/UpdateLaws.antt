@@ -2,7 +2,6 @@
 use Prim.Native.Nat.{ℕ, zero, suc, ◌+◌, ◌*◌, ◌/◌, ◌≤◌, ◌<◌, max}
 use mathlib.Core.Path.{◌≡◌, refl, sym, ap, ◌∙◌, subst}
 use mathlib.Core.Bool.{not, cond}
-use mathlib.Core.Option.{none, some}
 use mathlib.Core.List.{List, [], ◌∷◌}
 use native.Mathlib.Nat.{add-zero, zero-add, le_refl, max-eq_right}
 use native.Mathlib.Numerals.{add-one}
@@ -21,7 +20,10 @@ use Rattle.store.proofs.StoreLaws.{Filled, filled_none, filled_more, coord_here,
 use Rattle.map.specs.Record.{light, crossing, Rule, Map}
 use Rattle.map.specs.Rows.{with_rules, rule_with}
 use Rattle.map.specs.Tables.{flag_at, list_at, point_from, line_at, lane_in, line_string_in, bulb_at, signal_in, crosswalk_in, body_of, rule_in, map_of}
-use Rattle.map.specs.Updates.{LinePushed, signal_of_parts, SignalPushed, new_body, RulePushed, with_list, with_rule_line, RulePut, RuleDropped}
+use Rattle.map.specs.Updates.{LinePushed, signal_of_parts, SignalPushed, new_body, rule_words, body_of_new, RulePushed, with_list, with_rule_line, RulePut, RuleDropped}
+use Rattle.map.specs.declared.NewRule.{NewRule}
+use Rattle.map.specs.declared.NewRule.TheVariants.{Light, Sign, Marking}
+use Rattle.std.specs.Prelude.{Some, None}
 use Rattle.map.proofs.ReadLaws.{length_row, length_coords}
 
 -- ---- the sizes of the kinds
@@ -527,6 +529,22 @@ pub rule_pushed_is : (d lanes signals one two ws ws₁ ws₂ : List ℕ) → len
 rule_pushed_is d lanes signals one two ws ws₁ ws₂ long few less a b e num kind value flag line f e0 e1 e2 e3 e4 e5 e7 e24 e41 ok room eu h g =
     rw (f, e, b, a) (rule_pushed d lanes signals long few less num kind value flag line e0 e1 e2 e3 e4 e5 e7 e24 e41 ws ok room eu h g)
 
+-- a new rule's words are those of its body, and its kind is one of the three
+module _ (w : List ℕ) (signals : List ℕ) where
+  pub told_body : (r : NewRule) → w ≡ rule_words r → new_body (get_or w 0 0) (get_or w 1 0) (get_or w 2 0) (get_or w 3 0) signals ≡ body_of_new r signals
+  told_body (Light None) e = rw e
+  told_body (Light (Some line)) e = rw e
+  told_body (Sign value None) e = rw e
+  told_body (Sign value (Some line)) e = rw e
+  told_body (Marking line) e = rw e
+
+  pub told_kind : (r : NewRule) → w ≡ rule_words r → (get_or w 0 0 ≤ 3) × (0 < get_or w 0 0)
+  told_kind (Light None) e = rw e (omega arith, omega arith)
+  told_kind (Light (Some line)) e = rw e (omega arith, omega arith)
+  told_kind (Sign value None) e = rw e (omega arith, omega arith)
+  told_kind (Sign value (Some line)) e = rw e (omega arith, omega arith)
+  told_kind (Marking line) e = rw e (omega arith, omega arith)
+
 -- ---- what a changed row says: for who puts a rule's lists or line
 
 module _ (r : List ℕ) (long : length r ≡ 92) (o : ℕ) (xs : List ℕ) (fits : o + 1 + length xs ≤ 92) where
@@ -632,7 +650,7 @@ module _ (r : List ℕ) (long : length r ≡ 92) (xs : List ℕ) (short : length
 -- a light with other signals, a crossing with other lines, a light with another line
 module _ (r : List ℕ) (long : length r ≡ 92) (c : List Float) where
   pub with_signals : (xs : List ℕ) → length xs ≤ 16 → get_or r 1 0 ≡ 1 → get_or r 7 0 ≤ 16 → get_or r 24 0 ≤ 16
-      → rule_in (with_list r 41 xs) c ≡ rule_with (rule_in r c) (light xs (cond (flag_at r 3) (some (get_or r 4 0)) none)) (rule_in r c).lanes (rule_in r c).controlled
+      → rule_in (with_list r 41 xs) c ≡ rule_with (rule_in r c) (light xs (cond (flag_at r 3) (Some (get_or r 4 0)) None)) (rule_in r c).lanes (rule_in r c).controlled
   unfolding rule_in flag_at
   with_signals xs short k l d =
       rw (
@@ -682,7 +700,7 @@ module _ (r : List ℕ) (long : length r ≡ 92) (c : List Float) where
     line_list p h = rw (line_past p h) (list_to_same _ _ (get_or r p 0) (λ i g. line_past (p + 1 + i) (omega arith)))
 
     pub with_line_lem : get_or r 1 0 ≡ 1
-        → rule_in (with_rule_line r flag line) c ≡ rule_with (rule_in r c) (light (list_at r 41) (cond (not (eqb flag 0)) (some line) none)) (rule_in r c).lanes (rule_in r c).controlled
+        → rule_in (with_rule_line r flag line) c ≡ rule_with (rule_in r c) (light (list_at r 41) (cond (not (eqb flag 0)) (Some line) None)) (rule_in r c).lanes (rule_in r c).controlled
     unfolding rule_in flag_at
     with_line_lem k =
         rw (

@@ -1,10 +1,9 @@
 -- What the readers of the tables answer.
-use Rattle.std.specs.Prelude.{ℕ, ◌≡◌, Bool, cond, List, ltb, Float, get_or, length, take}
-use Rattle.std.proofs.Math.Option.{none, some}
+use Rattle.std.specs.Prelude.{ℕ, ◌≡◌, Bool, List, ltb, Float, get_or, length, take, Option, Some, None}
+use Rattle.std.specs.Bool.{then_some}
+use Rattle.geometry.specs.Polyline.{Polyline}
 use Rattle.rows.specs.Rows.{numbers_at, index_of}
 use Rattle.store.specs.Layout.{width_of, base_of, count_of}
-use Rattle.map.specs.declared.Found.{Found}
-use Rattle.map.specs.declared.Found.TheVariants.{At, Nothing}
 use Rattle.map.specs.declared.LaneRow.{LaneRow}
 use Rattle.map.specs.declared.RuleHead.{RuleHead}
 use Rattle.map.specs.declared.Entries.{Entries}
@@ -16,11 +15,20 @@ use Rattle.map.specs.Tables.{flag_at, list_at, line_at, lane_in, map_of}
 unfoldable pub index_in : List ℕ → ℕ → ℕ → ℕ
 index_in ws k x = index_of x (numbers_at ws (width_of k) (count_of ws k) (base_of k))
 
+-- where a record stands in its table: `Some` of its index
+abbrev pub Found : Type 0
+Found = Option ℕ
+
 abbrev pub found_at : ℕ → ℕ → Found
-found_at i n = cond (ltb i n) (At i) Nothing
+found_at i n = then_some (ltb i n) i
 
 unfoldable pub lookup : List ℕ → ℕ → ℕ → Found
 lookup ws k x = found_at (index_in ws k x) (count_of ws k)
+
+-- the centreline of so many points, where a lane has one of its own
+abbrev pub centerline_of_row : Option ℕ → List Float → Option Polyline
+centerline_of_row None c = None
+centerline_of_row (Some n) c = Some (line_at c 0 n)
 
 -- the lane that a row read by value is; its centreline's points are among the coordinates
 unfoldable pub lane_of_row : LaneRow → List Float → Lane
@@ -30,7 +38,7 @@ lane_of_row r c =
       kind = r.kind;
       left = record { boundary = r.left; reversed = r.left_reversed };
       right = record { boundary = r.right; reversed = r.right_reversed };
-      centerline = cond r.has_centerline (some (line_at c 0 r.points)) none;
+      centerline = centerline_of_row r.centerline c;
     }
 
 pub record LaneRead (row : List ℕ) (r : LaneRow) : Type 0 where

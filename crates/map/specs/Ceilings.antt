@@ -1,6 +1,5 @@
 -- The ceilings, and whether a map keeps below them.
-use Rattle.std.specs.Prelude.{ℕ, ◌+◌, Bool, true, ◌&&◌, List, leb, length}
-use Rattle.std.proofs.Math.Option.{Option, none, some}
+use Rattle.std.specs.Prelude.{ℕ, ◌+◌, Bool, true, ◌&&◌, List, leb, length, Option, None, Some}
 use Rattle.geometry.specs.Polyline.{Polyline}
 use Rattle.rows.specs.Lists.{every, total, open_lists}
 use Rattle.map.specs.Record.{Lane, LineString, Signal, Crosswalk, RuleBody, light, sign, marking, right_of_way, crossing, other, Rule, Map}
@@ -45,12 +44,12 @@ at_most n xs = leb (length xs) n
 
 module _ {A : Type 0} where
   unfoldable pub if_there : (A → Bool) → Option A → Bool
-  if_there p none = true
-  if_there p (some a) = p a
+  if_there p None = true
+  if_there p (Some a) = p a
 
   unfoldable pub size_of : (A → ℕ) → Option A → ℕ
-  size_of f none = 0
-  size_of f (some a) = f a
+  size_of f None = 0
+  size_of f (Some a) = f a
 
 unfoldable pub line_within : Polyline → Bool
 line_within xs = at_most max_line_points xs

@@ -1,10 +1,8 @@
 -- A record is known by kind and number, and present where the tables hold it.
 use Prim.Native.Nat.{ℕ, ◌+◌, compare, Ordering}
-use Rattle.std.specs.Prelude.{Bool, false, ◌&&◌, ◌||◌, cond, List, [], ◌∷◌, eqb, length}
-use Rattle.std.proofs.Math.Option.{Option, none, some}
+use Rattle.std.specs.Prelude.{Bool, false, ◌&&◌, ◌||◌, cond, List, [], ◌∷◌, eqb, length, Option, None, Some}
 use Rattle.rows.specs.Lists.{by_order}
 use Rattle.rows.specs.Table.{find, holds}
-use Rattle.codec.specs.Format
 use Rattle.codec.specs.Format.{Bytes}
 use Rattle.map.specs.Record.{Map}
 use Rattle.map.specs.MapFile.{lane, line_string, signal, crosswalk, rule, open_map_file}
@@ -39,8 +37,8 @@ has m a =
     (cond (eqb a.kind 8) (holds (λ r. r.num) a.num m.rules) false)))))
 
 unfoldable pub form_in : {A : Type 0} → (A → Bytes) → Option A → Option Bytes
-form_in write none = none
-form_in write (some x) = some (write x)
+form_in write None = None
+form_in write (Some x) = Some (write x)
 
 -- the written form of the record that the map has under a kind and number
 unfoldable pub form_of : Map → EntityRef → Option Bytes
@@ -50,7 +48,7 @@ form_of m a =
     (cond (eqb a.kind 5) (form_in line_string.write (find (λ r. r.num) a.num m.stop_lines))
     (cond (eqb a.kind 6) (form_in signal.write (find (λ r. r.num) a.num m.signals))
     (cond (eqb a.kind 7) (form_in crosswalk.write (find (λ r. r.num) a.num m.crosswalks))
-    (cond (eqb a.kind 8) (form_in rule.write (find (λ r. r.num) a.num m.rules)) none)))))
+    (cond (eqb a.kind 8) (form_in rule.write (find (λ r. r.num) a.num m.rules)) None)))))
 
 unfoldable pub record_count : Map → ℕ
 record_count m =

@@ -1,6 +1,5 @@
 -- Look-ups by number.
-use Rattle.std.specs.Prelude.{ℕ, cond, List}
-use Rattle.std.proofs.Math.Option.{Option, none, some}
+use Rattle.std.specs.Prelude.{ℕ, cond, List, Option, None, Some}
 use Rattle.geometry.specs.Polyline.{Polyline, reversed}
 use Rattle.rows.specs.Lists.{first_of}
 use Rattle.rows.specs.Table.{find, holds}
@@ -23,11 +22,11 @@ rule_of m n = find (λ r. r.num) n m.rules
 
 -- a boundary's points, along the lane
 unfoldable pub oriented : Map → BoundaryRef → Option Polyline
-oriented m s = elim (boundary_of m s.boundary) [ none ↦ none | some b ↦ some (cond s.reversed (reversed b.geometry) b.geometry) ]
+oriented m s = elim (boundary_of m s.boundary) [ None ↦ None | Some b ↦ Some (cond s.reversed (reversed b.geometry) b.geometry) ]
 
 -- the first number of a list, as given, that the table lacks
 unfoldable pub unknown_in : {A : Type 0} → (A → ℕ) → List A → List ℕ → Option ℕ
-unknown_in num table = first_of (λ n. cond (holds num n table) none (some n))
+unknown_in num table = first_of (λ n. cond (holds num n table) None (Some n))
 
 unfoldable pub open_lookup : Unit {0}
 unfolding lane_of boundary_of line_of signal_of rule_of oriented unknown_in

@@ -1,6 +1,5 @@
 -- The map file, a line for each record, and what it is to be a map.
-use Rattle.std.specs.Prelude.{ℕ, zero, suc, ◌≡◌, refl, Bool, List, leb, Float}
-use Rattle.std.proofs.Math.Option.{Option}
+use Rattle.std.specs.Prelude.{ℕ, zero, suc, ◌≡◌, refl, Bool, List, leb, Float, Option}
 use Rattle.geometry.specs.declared.Point3.{Point3}
 use Rattle.geometry.specs.Double.{on_map, is_finite}
 use Rattle.geometry.specs.Point.{at3, open_point}

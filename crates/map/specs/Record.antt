@@ -1,6 +1,5 @@
 -- The records of a map, and the map. Lists of records stand in rising order of their numbers.
-use Rattle.std.specs.Prelude.{ℕ, Bool, List, Float}
-use Rattle.std.proofs.Math.Option.{Option}
+use Rattle.std.specs.Prelude.{ℕ, Bool, List, Float, Option}
 use Rattle.geometry.specs.declared.Point3.{Point3}
 use Rattle.geometry.specs.Polyline.{Polyline}
 use Rattle.map.specs.declared.SignalKind.{SignalKind}

@@ -1,7 +1,6 @@
 -- The map that two lists stand for: words and coordinates, laid out as docs/TABLES.md says. Counts are taken as they stand, so a list, a polyline or a
 -- table whose count is past its room stands for a list of that length, and that is no map.
-use Rattle.std.specs.Prelude.{ℕ, zero, suc, ◌+◌, ◌*◌, Bool, ◌&&◌, not, cond, List, eqb, Float, length, get_or}
-use Rattle.std.proofs.Math.Option.{Option, none, some}
+use Rattle.std.specs.Prelude.{ℕ, zero, suc, ◌+◌, ◌*◌, Bool, ◌&&◌, not, cond, List, eqb, Float, length, get_or, Option, None, Some}
 use Rattle.std.specs.Float.{nan}
 use Rattle.geometry.specs.declared.Point3.{Point3}
 use Rattle.geometry.specs.Point.{at3}
@@ -18,7 +17,7 @@ flag_at r o = not (eqb (get_or r o 0) 0)
 
 -- the value, where the flag says yes
 abbrev pub option_at : {A : Type 0} → List ℕ → ℕ → A → Option A
-option_at r o a = cond (flag_at r o) (some a) none
+option_at r o a = cond (flag_at r o) (Some a) None
 
 -- a count and as many numbers
 unfoldable pub list_at : List ℕ → ℕ → List ℕ

@@ -34,13 +34,6 @@ pub enum BulbArrow {
     DownRight,
 }
 
-// Where a record stands in its table.
-#[derive(Drop)]
-pub enum Found {
-    At(usize),
-    Nothing,
-}
-
 // A lane's row of words.
 #[derive(Clone, Copy)]
 pub struct LaneRow {
@@ -50,11 +43,12 @@ pub struct LaneRow {
     pub left_reversed: bool,
     pub right: u64,
     pub right_reversed: bool,
-    pub has_centerline: bool,
-    pub points: u64,
+    // The points of its own centreline, where it has one.
+    pub centerline: Option<u64>,
 }
 
-// A rule's row of words, but its lists.
+// A rule's row of words, but its lists. A flag and what it tells of stay apart: a marking has its
+// line without the flag, and every word is told as it stands.
 #[derive(Drop)]
 pub struct RuleHead {
     pub number: u64,
@@ -66,6 +60,15 @@ pub struct RuleHead {
     pub points: u64,
 }
 
+// What a new rule is, besides its lanes and signals.
+#[derive(Clone, Copy)]
+pub enum NewRule {
+    Light { line: Option<u64> },
+    // A sign of a type, which is not drawn.
+    Sign { value: u64, line: Option<u64> },
+    Marking { line: u64 },
+}
+
 // A list of a rule.
 #[derive(Clone, Copy)]
 pub struct Entries {
@@ -73,39 +76,27 @@ pub struct Entries {
     pub entries: [u64; 16],
 }
 
-// The number that the tables and files hold.
-pub fn signal_kind_number(k: SignalKind) -> u64
-    ensures { result ≡ signal_kind_number k }
-{
-    match k {
-        SignalKind::Vehicle => 0,
-        SignalKind::Pedestrian => 1,
+// The numbers that the tables and files hold.
+impl SignalKind {
+    pub fn number(self) -> u64
+        ensures { result ≡ signal_kind_number self }
+    {
+        self as u64
     }
 }
 
-pub fn bulb_color_number(c: BulbColor) -> u64
-    ensures { result ≡ bulb_color_number c }
-{
-    match c {
-        BulbColor::Red => 0,
-        BulbColor::Yellow => 1,
-        BulbColor::Green => 2,
-        BulbColor::White => 3,
+impl BulbColor {
+    pub fn number(self) -> u64
+        ensures { result ≡ bulb_color_number self }
+    {
+        self as u64
     }
 }
 
-pub fn bulb_arrow_number(a: BulbArrow) -> u64
-    ensures { result ≡ bulb_arrow_number a }
-{
-    match a {
-        BulbArrow::NoArrow => 0,
-        BulbArrow::Up => 1,
-        BulbArrow::Down => 2,
-        BulbArrow::Left => 3,
-        BulbArrow::Right => 4,
-        BulbArrow::UpLeft => 5,
-        BulbArrow::UpRight => 6,
-        BulbArrow::DownLeft => 7,
-        BulbArrow::DownRight => 8,
+impl BulbArrow {
+    pub fn number(self) -> u64
+        ensures { result ≡ bulb_arrow_number self }
+    {
+        self as u64
     }
 }

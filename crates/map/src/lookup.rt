@@ -1,63 +1,62 @@
 // Reading the tables: look-ups by number, and records by their index.
 ghost use Rattle.std.specs.Prelude.{◌≡◌, ◌+◌, ◌*◌, ◌≤◌, ◌<◌, ltb, length, get_or};
 ghost use Rattle.geometry.specs.Polyline.{polyline_of};
+ghost use Rattle.store.specs.Kinds.{kind_number};
 ghost use Rattle.store.specs.Layout.{SizedWords, limit_of, width_of, count_of, coord_width_of, row_of, coords_of, all_coords};
 ghost use Rattle.map.specs.Tables.{line_at, list_at};
 ghost use Rattle.map.specs.Access.{lookup, index_in, HasRead, LaneRead, HeadRead, ListRead};
 
-use crate::{Entries, Found, LaneRow, RuleHead};
+use crate::{Entries, LaneRow, RuleHead};
+use store::Kind;
 
 // The index of the record of kind k with number x.
-pub fn find(words: &[u64], k: usize, x: u64) -> Found
-    requires { SizedWords words.now × (k < 6) }
-    ensures { result ≡ lookup words.now k x }
+pub fn find(words: &[u64], k: Kind, x: u64) -> Option<usize>
+    requires { SizedWords words.now }
+    ensures { result ≡ lookup words.now (kind_number k) x }
 {
     let i = store::find(words, k, x);
-    if i < store::count(words, k) {
-        return Found::At(i);
-    }
-    Found::Nothing
+    (i < store::count(words, k)).then_some(i)
 }
 
 // Whether kind k has a record with number x.
-pub fn holds(words: &[u64], k: usize, x: u64) -> bool
-    requires { SizedWords words.now × (k < 6) }
-    ensures { result ≡ ltb (index_in words.now k x) (count_of words.now k) }
+pub fn holds(words: &[u64], k: Kind, x: u64) -> bool
+    requires { SizedWords words.now }
+    ensures { result ≡ ltb (index_in words.now (kind_number k) x) (count_of words.now (kind_number k)) }
 {
     store::find(words, k, x) < store::count(words, k)
 }
 
 // Whether the map has a record; the kind is a change set's: lane 1, boundary 2, stop line 5,
-// signal 6, crosswalk 7, rule 8.
+// signal 6, crosswalk 7, rule 8. A set may name any other number, so it is none of an enum.
 pub fn has(words: &[u64], kind: u64, number: u64) -> bool
     requires { SizedWords words.now }
     ensures { HasRead words.now kind number result }
 {
     match kind {
-        1 => holds(words, 0, number),
-        2 => holds(words, 1, number),
-        5 => holds(words, 2, number),
-        6 => holds(words, 3, number),
-        7 => holds(words, 4, number),
-        8 => holds(words, 5, number),
+        1 => holds(words, Kind::Lane, number),
+        2 => holds(words, Kind::Boundary, number),
+        5 => holds(words, Kind::StopLine, number),
+        6 => holds(words, Kind::Signal, number),
+        7 => holds(words, Kind::Crosswalk, number),
+        8 => holds(words, Kind::Rule, number),
         _ => false,
     }
 }
 
 // Word o of row i of kind k.
-pub fn word(words: &[u64], k: usize, i: usize, o: usize) -> u64
-    requires { SizedWords words.now × (k < 6) × (i < limit_of k) × (o < width_of k) }
-    ensures { result ≡ get_or (row_of words.now k i) o 0 }
+pub fn word(words: &[u64], k: Kind, i: usize, o: usize) -> u64
+    requires { SizedWords words.now × (i < limit_of (kind_number k)) × (o < width_of (kind_number k)) }
+    ensures { result ≡ get_or (row_of words.now (kind_number k) i) o 0 }
 {
-    words[store::layout::place(k, i) + o]
+    words[k.place(i) + o]
 }
 
 // The n points from coordinate o on, of row i of kind k.
-pub fn points(coords: &[f64], k: usize, i: usize, o: usize, n: usize) -> &[f64]
-    requires { (length coords.now ≡ all_coords) × (k < 6) × (i < limit_of k) × (o + n * 3 ≤ coord_width_of k) }
-    ensures { polyline_of result.now ≡ line_at (coords_of coords.now k i) o n }
+pub fn points(coords: &[f64], k: Kind, i: usize, o: usize, n: usize) -> &[f64]
+    requires { (length coords.now ≡ all_coords) × (i < limit_of (kind_number k)) × (o + n * 3 ≤ coord_width_of (kind_number k)) }
+    ensures { polyline_of result.now ≡ line_at (coords_of coords.now (kind_number k) i) o n }
 {
-    let at = store::layout::coord_place(k, i) + o;
+    let at = k.coord_place(i) + o;
     let e = at + n * 3;
     &coords[at..e]
 }
@@ -75,8 +74,7 @@ pub fn lane(words: &[u64], i: usize) -> LaneRow
         left_reversed: words[at + 3] != 0,
         right: words[at + 4],
         right_reversed: words[at + 5] != 0,
-        has_centerline: words[at + 6] != 0,
-        points: words[at + 7],
+        centerline: (words[at + 6] != 0).then_some(words[at + 7]),
     }
 }
 

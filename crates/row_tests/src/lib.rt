@@ -1,4 +1,5 @@
-// The tests of one row: whether its kinds, flags, counts and coordinates are those of a record.
+// The tests of one row: whether its kinds, flags, counts and coordinates are those of a record. A row is told by its two places in
+// the two slices that C lends, and a kind by any number that stands there: a struct of both would be taken apart in each test.
 #![tactic(auto)]
 
 ghost use Rattle.std.specs.Prelude.{◌≡◌, ◌&&◌, ◌+◌, ◌*◌, ◌≤◌, ◌<◌, length, get_or};
@@ -32,11 +33,10 @@ pub fn coords_ok(coords: &[f64], at: usize, n: usize) -> bool
     requires { at + n ≤ length coords.now }
     ensures { result ≡ every good_coord (cut coords.now at n) }
 {
+    let part = &coords[at..at + n];
     let mut good = true;
-    let mut i = 0;
-    while i < n {
-        good = both(good, coord_ok(coords[at + i]));
-        i += 1;
+    for x in part {
+        good = both(good, coord_ok(*x));
     }
     good
 }
@@ -96,12 +96,10 @@ pub fn bulbs_ok(words: &[u64], coords: &[f64], at: usize, o: usize) -> bool
     if 4 < n {
         return false;
     }
-    let mut j = 0;
-    while j < n {
+    for j in 0..n {
         if !bulb_ok(words, coords, at, o, j) {
             return false;
         }
-        j += 1;
     }
     true
 }

@@ -77,6 +77,13 @@ module _ {ℓ} {A : Type ℓ} where
   unfolding pasted
   pasted_more d at s j z hd hs = rw add-one (paste-suc d at s j z hd hs)
 
+  -- a part that is written at once
+  pub pasted_whole : (d s : List A) (at : ℕ) → take at d ++ (s ++ drop (at + length s - at) (drop at d)) ≡ pasted d at s (length s)
+  unfolding pasted
+  pasted_whole d s at =
+      let e : at + length s - at ≡ length s = omega arith in
+      rw (e, drop-drop, take-length, append_assoc)
+
   pub length-pasted : (d : List A) (at : ℕ) (s : List A) (n : ℕ) → at + n ≤ length d → n ≤ length s → length (pasted d at s n) ≡ length d
   unfolding pasted
   length-pasted d at s n hd hs = length-paste d at s n hd hs
@@ -232,6 +239,10 @@ pub left_step : (w n i : ℕ) → i < n → (n - i) * w ≡ (n - (i + 1)) * w + 
 left_step w n i h =
     let e : n - i ≡ suc (n - (i + 1)) = omega arith in
     ap (λ (k : ℕ). k * w) e ∙ suc-mul (n - (i + 1)) w
+
+-- the index of the next row
+pub row_next : (base w i : ℕ) → base + i * w + w ≡ base + (i + 1) * w
+row_next base w i = omega (arith, suc-mul i w, ap (λ (k : ℕ). k * w) (add-one i))
 
 pub numbers_step : (t : List ℕ) (w n i at : ℕ) → i < n → numbers_at t w (n - i) at ≡ get_or t at 0 ∷ numbers_at t w (n - (i + 1)) (at + w)
 unfolding numbers_at

@@ -3,7 +3,7 @@ use Prim.Native.Nat.compare
 use Prim.Native.Nat.{ℕ, zero, suc, ◌+◌, ◌*◌}
 use mathlib.Core.Path.{◌≡◌, refl, ap}
 use mathlib.Core.Bool.{Bool, true, false, ◌||◌, cond}
-use mathlib.Core.Option.{Option, none, some}
+use Rattle.std.specs.Prelude.{Option, None, Some}
 use mathlib.Core.List.{List, ◌∷◌}
 use native.Mathlib.Nat.{add-zero, suc-mul}
 use native.Mathlib.Omega.{arith}
@@ -25,8 +25,8 @@ numbers_tab l w at i (suc n) =
 ltb_suc : (a b : ℕ) → ltb (suc a) (suc b) ≡ ltb a b
 ltb_suc a b = rw compare.suc-suc
 
-found : {A : Type 0} (g : ℕ → A) (b : Bool) (i n rest : ℕ) (t : Option A) → t ≡ cond (ltb rest n) (some (g (suc i + rest))) none
-    → cond b (some (g i)) t ≡ cond (ltb (cond b 0 (suc rest)) (suc n)) (some (g (i + cond b 0 (suc rest)))) none
+found : {A : Type 0} (g : ℕ → A) (b : Bool) (i n rest : ℕ) (t : Option A) → t ≡ cond (ltb rest n) (Some (g (suc i + rest))) None
+    → cond b (Some (g i)) t ≡ cond (ltb (cond b 0 (suc rest)) (suc n)) (Some (g (i + cond b 0 (suc rest)))) None
 found g true i n rest t e = rw (add-zero, lt-ltb 0 (suc n) (omega arith))
 found g false i n rest t e =
     let a : i + suc rest ≡ suc i + rest = omega arith in
@@ -38,7 +38,7 @@ held false n rest t e = rw (ltb_suc rest n) e
 
 module _ {A : Type 0} (num : A → ℕ) (g : ℕ → A) where
   -- where a search stops tells what is found
-  pub find_tab : (x i n : ℕ) → find num x (tab g i n) ≡ cond (ltb (index_of x (tab (λ j. num (g j)) i n)) n) (some (g (i + index_of x (tab (λ j. num (g j)) i n)))) none
+  pub find_tab : (x i n : ℕ) → find num x (tab g i n) ≡ cond (ltb (index_of x (tab (λ j. num (g j)) i n)) n) (Some (g (i + index_of x (tab (λ j. num (g j)) i n)))) None
   unfolding find tab index_of
   find_tab x i zero = refl
   find_tab x i (suc n) = found g (eqb (num (g i)) x) i n _ _ (find_tab x (suc i) n)

@@ -1,7 +1,6 @@
 -- Lists: what a loop builds up, looks for and tests. One set of definitions for all kinds of records.
 use Prim.Native.Nat.{ℕ, zero, suc, ◌+◌, compare, Ordering}
-use Rattle.std.specs.Prelude.{Bool, true, false, ◌&&◌, ◌||◌, cond, List, [], ◌∷◌, ◌++◌, eqb}
-use Rattle.std.proofs.Math.Option.{Option, none, some}
+use Rattle.std.specs.Prelude.{Bool, true, false, ◌&&◌, ◌||◌, cond, List, [], ◌∷◌, ◌++◌, eqb, Option, None, Some}
 
 -- What a test picks is a function of the test, and what a recursion goes on with is bound by a `let`: the `let` waits, and the test stands where `rw` finds it.
 abbrev pub by_order : {A : Type 0} → Ordering → A → A → A → A
@@ -10,12 +9,12 @@ by_order Ordering.eq a b c = b
 by_order Ordering.gt a b c = c
 
 abbrev pub or_else : {A : Type 0} → Option A → Option A → Option A
-or_else none b = b
-or_else (some a) b = some a
+or_else None b = b
+or_else (Some a) b = Some a
 
 unfoldable pub or_default : {A : Type 0} → Option A → A → A
-or_default none b = b
-or_default (some a) b = a
+or_default None b = b
+or_default (Some a) b = a
 
 module _ {A : Type 0} where
   -- ---- by index
@@ -27,12 +26,12 @@ module _ {A : Type 0} where
 
   -- the first answer among f i, f (i + 1) .. f (i + k - 1)
   unfoldable pub first_from : (ℕ → Option A) → ℕ → ℕ → Option A
-  first_from f zero i = none
+  first_from f zero i = None
   first_from f (suc k) i = let rest = first_from f k (suc i) in or_else (f i) rest
 
   -- the first answer among f (i - 1) .. f 0
   unfoldable pub first_below : (ℕ → Option A) → ℕ → Option A
-  first_below f zero = none
+  first_below f zero = None
   first_below f (suc i) = let rest = first_below f i in or_else (f i) rest
 
   -- ---- from the front
@@ -46,7 +45,7 @@ module _ {A : Type 0} where
   keep p (x ∷ xs) = let rest = keep p xs in cond (p x) (x ∷ rest) rest
 
   unfoldable pub first_of : {B : Type 0} → (A → Option B) → List A → Option B
-  first_of f [] = none
+  first_of f [] = None
   first_of f (x ∷ xs) = let rest = first_of f xs in or_else (f x) rest
 
   unfoldable pub total : (A → ℕ) → List A → ℕ

@@ -1,11 +1,10 @@
 -- Tables: records in rising order of their numbers, for every kind of record by the function that gives its number.
-use Rattle.std.specs.Prelude.{ℕ, suc, Bool, true, false, ◌&&◌, ◌||◌, cond, List, [], ◌∷◌, eqb, ltb, leb}
-use Rattle.std.proofs.Math.Option.{Option, none, some}
+use Rattle.std.specs.Prelude.{ℕ, suc, Bool, true, false, ◌&&◌, ◌||◌, cond, List, [], ◌∷◌, eqb, ltb, leb, Option, None, Some}
 
 module _ {A : Type 0} (num : A → ℕ) where
   unfoldable pub find : ℕ → List A → Option A
-  find n [] = none
-  find n (x ∷ xs) = let rest = find n xs in cond (eqb (num x) n) (some x) rest
+  find n [] = None
+  find n (x ∷ xs) = let rest = find n xs in cond (eqb (num x) n) (Some x) rest
 
   unfoldable pub holds : ℕ → List A → Bool
   holds n [] = false

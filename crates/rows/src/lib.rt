@@ -1,4 +1,7 @@
 // Rows of fixed width in flat slices: the code that every table shares.
+//
+// A slice comes with the place to go on from, since what is promised speaks of the whole slice. Rows are gone through by their
+// index, as `numbers_at` goes: an iterator in steps of w would need a law of its own.
 #![tactic(auto)]
 
 ghost use Rattle.std.specs.Prelude.{◌≡◌, ◌+◌, ◌*◌, ◌≤◌, ◌<◌, length};
@@ -13,15 +16,11 @@ pub fn index(x: u64) -> usize
 }
 
 // Writes row into t from index at.
-pub fn put(t: &mut [u64], at: usize, row: &[u64])
+pub fn put<T: Copy>(t: &mut [T], at: usize, row: &[T])
     requires { at + length row.now ≤ length t.old }
     ensures { t.new ≡ pasted t.old at row.now (length row.now) }
 {
-    let mut j = 0;
-    while j < row.len() {
-        t[at + j] = row[j];
-        j += 1;
-    }
+    t[at..at + row.len()].copy_from_slice(row);
 }
 
 // Reads as many numbers as out has, from index at.
@@ -33,39 +32,13 @@ pub fn get(t: &[u64], at: usize, out: &mut [u64])
     put(out, 0, &t[at..e]);
 }
 
-// Moves the n numbers at from down to to.
-pub fn shift(t: &mut [u64], to: usize, from: usize, n: usize)
+// Moves the n elements at from down to to.
+pub fn shift<T: Copy>(t: &mut [T], to: usize, from: usize, n: usize)
     requires { (to ≤ from) × (from + n ≤ length t.old) }
     ensures { t.new ≡ moved t.old to from n }
 {
-    let mut j = 0;
-    while j < n {
+    for j in 0..n {
         t[to + j] = t[from + j];
-        j += 1;
-    }
-}
-
-// Writes row into t from index at.
-pub fn put_f64(t: &mut [f64], at: usize, row: &[f64])
-    requires { at + length row.now ≤ length t.old }
-    ensures { t.new ≡ pasted t.old at row.now (length row.now) }
-{
-    let mut j = 0;
-    while j < row.len() {
-        t[at + j] = row[j];
-        j += 1;
-    }
-}
-
-// Moves the n coordinates at from down to to.
-pub fn shift_f64(t: &mut [f64], to: usize, from: usize, n: usize)
-    requires { (to ≤ from) × (from + n ≤ length t.old) }
-    ensures { t.new ≡ moved t.old to from n }
-{
-    let mut j = 0;
-    while j < n {
-        t[to + j] = t[from + j];
-        j += 1;
     }
 }
 
@@ -74,16 +47,12 @@ pub fn find(t: &[u64], base: usize, w: usize, n: usize, x: u64) -> usize
     requires { (0 < w) × (base + n * w ≤ length t.now) }
     ensures { result ≡ index_of x (numbers_at t.now w n base) }
 {
-    let mut i = 0;
-    let mut at = base;
-    while i < n {
-        if t[at] == x {
+    for i in 0..n {
+        if t[base + i * w] == x {
             return i;
         }
-        i += 1;
-        at += w;
     }
-    i
+    n
 }
 
 // Whether the numbers of n rows rise strictly and are below next.
@@ -92,19 +61,12 @@ pub fn rising(t: &[u64], base: usize, w: usize, n: usize, next: u64) -> bool
     ensures { result ≡ rising (λ x. x) 0 next (numbers_at t.now w n base) }
 {
     let mut low = 0;
-    let mut i = 0;
-    let mut at = base;
-    while i < n {
-        let x = t[at];
-        if x < low {
-            return false;
-        }
-        if next <= x {
+    for i in 0..n {
+        let x = t[base + i * w];
+        if x < low || next <= x {
             return false;
         }
         low = x + 1;
-        i += 1;
-        at += w;
     }
     true
 }

@@ -2,7 +2,7 @@
 use Prim.Native.Nat.{ℕ, ◌+◌, ◌*◌, ◌<◌}
 use mathlib.Core.Path.{◌≡◌, sym, ◌∙◌}
 use mathlib.Core.Bool.{cond}
-use mathlib.Core.Option.{none, some}
+use Rattle.std.specs.Prelude.{None, Some}
 use mathlib.Core.List.{List}
 use native.Mathlib.Nat.{add-zero, zero-add, zero-mul}
 use lib.Dec.{ltb}
@@ -29,7 +29,7 @@ module _ {A : Type 0} (num : A → ℕ) (f : List ℕ → List Float → A) (fir
 
   pub find_record : (x : ℕ) → find num x (records_of f ws cs k)
       ≡ cond (ltb (index_of x (numbers_at ws (width_of k) (count_of ws k) (base_of k))) (count_of ws k))
-      (some (f (row_of ws k (index_of x (numbers_at ws (width_of k) (count_of ws k) (base_of k)))) (coords_of cs k (index_of x (numbers_at ws (width_of k) (count_of ws k) (base_of k)))))) none
+      (Some (f (row_of ws k (index_of x (numbers_at ws (width_of k) (count_of ws k) (base_of k)))) (coords_of cs k (index_of x (numbers_at ws (width_of k) (count_of ws k) (base_of k)))))) None
   unfolding records_of
   find_record x =
       rw (list_to_tab (λ i. f (row_of ws k i) (coords_of cs k i)) (count_of ws k), ← numbers_are)

@@ -1,2 +1,3 @@
+pub mod KindLaws
 pub mod StoreLaws
 pub mod FindLaws

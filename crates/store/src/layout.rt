@@ -1,7 +1,10 @@
-// Where the rows of each kind stand in words and coords. Kinds: 0 lane, 1 boundary, 2 stop line,
-// 3 signal, 4 crosswalk, 5 rule. The same numbers stand in specs/Layout.antt and docs/TABLES.md.
-ghost use Rattle.std.specs.Prelude.{◌≡◌, ◌≤◌, ◌<◌};
+// Where the rows of each kind stand in words and coords. The same numbers stand in
+// specs/Layout.antt and docs/TABLES.md.
+ghost use Rattle.std.specs.Prelude.{◌≡◌, ◌+◌, ◌≤◌};
+ghost use Rattle.store.specs.Kinds.{kind_number};
 ghost use Rattle.store.specs.Layout.{limit_of, width_of, base_of, coord_width_of, coord_base_of, place_of, coord_place_of};
+
+use crate::Kind;
 
 pub const WORDS: usize = 13671;
 
@@ -27,53 +30,58 @@ const COORD_WIDTHS: [usize; 6] = [192, 192, 192, 205, 576, 192];
 
 const COORD_BASES: [usize; 7] = [0, 12288, 36864, 49152, 62272, 80704, 105280];
 
-// How many records kind k has room for.
-pub fn limit(k: usize) -> usize
-    requires { k < 6 }
-    ensures { result ≡ limit_of k }
-{
-    LIMITS[k]
-}
+#[tactic(auto, using(crate::proofs::KindLaws::kind_tag), unfolding(crate::specs::Layout::limit_of, crate::specs::Layout::width_of, crate::specs::Layout::base_of, crate::specs::Layout::coord_width_of, crate::specs::Layout::coord_base_of))]
+impl Kind {
+    // How many records the kind has room for.
+    pub fn limit(self) -> usize
+        ensures { result ≡ limit_of (kind_number self) }
+    {
+        LIMITS[self as usize]
+    }
 
-pub fn width(k: usize) -> usize
-    requires { k < 6 }
-    ensures { result ≡ width_of k }
-{
-    WIDTHS[k]
-}
+    // The word that holds how many rows the kind has.
+    pub fn count_at(self) -> usize
+        ensures { result ≡ 1 + kind_number self }
+    {
+        1 + self as usize
+    }
 
-pub fn base(k: usize) -> usize
-    requires { k < 6 }
-    ensures { result ≡ base_of k }
-{
-    BASES[k]
-}
+    pub fn width(self) -> usize
+        ensures { result ≡ width_of (kind_number self) }
+    {
+        WIDTHS[self as usize]
+    }
 
-pub fn coord_width(k: usize) -> usize
-    requires { k < 6 }
-    ensures { result ≡ coord_width_of k }
-{
-    COORD_WIDTHS[k]
-}
+    pub fn base(self) -> usize
+        ensures { result ≡ base_of (kind_number self) }
+    {
+        BASES[self as usize]
+    }
 
-pub fn coord_base(k: usize) -> usize
-    requires { k < 6 }
-    ensures { result ≡ coord_base_of k }
-{
-    COORD_BASES[k]
-}
+    pub fn coord_width(self) -> usize
+        ensures { result ≡ coord_width_of (kind_number self) }
+    {
+        COORD_WIDTHS[self as usize]
+    }
 
-// Where row i of kind k begins.
-pub fn place(k: usize, i: usize) -> usize
-    requires { (k < 6) × (i ≤ limit_of k) }
-    ensures { result ≡ place_of k i }
-{
-    base(k) + i * width(k)
-}
+    pub fn coord_base(self) -> usize
+        ensures { result ≡ coord_base_of (kind_number self) }
+    {
+        COORD_BASES[self as usize]
+    }
 
-pub fn coord_place(k: usize, i: usize) -> usize
-    requires { (k < 6) × (i ≤ limit_of k) }
-    ensures { result ≡ coord_place_of k i }
-{
-    coord_base(k) + i * coord_width(k)
+    // Where row i begins.
+    pub fn place(self, i: usize) -> usize
+        requires { i ≤ limit_of (kind_number self) }
+        ensures { result ≡ place_of (kind_number self) i }
+    {
+        self.base() + i * self.width()
+    }
+
+    pub fn coord_place(self, i: usize) -> usize
+        requires { i ≤ limit_of (kind_number self) }
+        ensures { result ≡ coord_place_of (kind_number self) i }
+    {
+        self.coord_base() + i * self.coord_width()
+    }
 }

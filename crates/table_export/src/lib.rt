@@ -6,8 +6,6 @@ ghost use Rattle.map.specs.Tables.{is_map_tables};
 ghost use Rattle.changes.specs.Layout.{change_set_of, fold_tables};
 ghost use Rattle.told.specs.Told.{Told, always};
 
-use sets::Folded;
-
 #[unsafe(no_mangle)]
 pub extern "C" fn lane_map_is_map(words: &[u64], coords: &[f64]) -> bool
     ensures { result ≡ is_map_tables words.now coords.now }
@@ -20,9 +18,8 @@ pub extern "C" fn lane_map_is_map(words: &[u64], coords: &[f64]) -> bool
 pub extern "C" fn lane_map_fold(fold: &mut [u64], set: &[u64]) -> u64
     ensures { Told (always (fold_tables fold.old set.now)) change_set_of result fold.old fold.new }
 {
-    let folded = sets::fold(fold, set);
-    match folded {
-        Folded::Done => 0,
-        Folded::Refused(x) => refusal::number(x),
+    match sets::fold(fold, set) {
+        Ok(()) => 0,
+        Err(x) => x.number(),
     }
 }

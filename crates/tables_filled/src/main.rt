@@ -2,14 +2,51 @@
 #![tactic(auto)]
 
 ghost use Rattle.std.specs.Prelude.{◌≡◌, ◌-◌, ◌^◌, ◌<◌, ◌≤◌, length};
+ghost use Rattle.store.specs.Kinds.{kind_number};
 ghost use Rattle.store.specs.Layout.{Sized, count_of, next_of, limit_of, width_of, coord_width_of};
 
-// The descriptor that programs print to.
-const STDOUT_FILENO: i32 = 1;
+use std::io;
+use store::Kind;
+
+// The points of what is added: 2 points, 4 points, a signal's height and its bulbs' places, a crosswalk's edges.
+const TWO: [f64; 6] = [1.5; 6];
+
+const FOUR: [f64; 12] = [2.5; 12];
+
+const MORE: [f64; 13] = [3.5; 13];
+
+const EDGES: [f64; 576] = [4.5; 576];
+
+// What is told of the tables: the next number, the counts, and the numbers of the last rows that there is room for.
+const COUNTS: [(&str, usize); 12] = [
+    ("next", 0),
+    ("lanes", 1),
+    ("  last", 511),
+    ("boundaries", 2),
+    ("  last", 773),
+    ("lines", 3),
+    ("  last", 901),
+    ("signals", 4),
+    ("  last", 1722),
+    ("crosswalks", 5),
+    ("  last", 1890),
+    ("rules", 6),
+];
+
+// Of the rule at 13395, the last but two that there is room for: its number, its lists' counts and their last entries.
+const LISTS: [(&str, usize); 7] = [
+    ("  rule", 13395),
+    ("  lanes", 13402),
+    ("  last lane", 13418),
+    ("  crosswalks", 13419),
+    ("  last crosswalk", 13435),
+    ("  signals", 13436),
+    ("  last signal", 13452),
+];
 
 // A row of kind k more, with its coordinates.
-fn put_row(words: &mut [u64], coords: &mut [f64], k: usize, row: &[u64], part: &[f64])
-    requires { Sized words.old coords.old × (k < 6) × (count_of words.old k < limit_of k) × (next_of words.old < 2 ^ 64 - 1) × (length row.now ≡ width_of k) × (length part.now ≤ coord_width_of k) }
+fn put_row(words: &mut [u64], coords: &mut [f64], k: Kind, row: &[u64], part: &[f64])
+    requires { Sized words.old coords.old × (count_of words.old (kind_number k) < limit_of (kind_number k)) × (next_of words.old < 2 ^ 64 - 1) × (length row.now ≡ width_of (kind_number k)) × (length part.now ≤ coord_width_of (kind_number k)) }
 {
     let n = store::count(words, k);
     let number = store::next(words);
@@ -19,19 +56,19 @@ fn put_row(words: &mut [u64], coords: &mut [f64], k: usize, row: &[u64], part: &
 }
 
 // The same, where there is room and a number.
-fn add_sized(words: &mut [u64], coords: &mut [f64], k: usize, row: &[u64], part: &[f64]) -> bool
-    requires { Sized words.old coords.old × (k < 6) }
+fn add_sized(words: &mut [u64], coords: &mut [f64], k: Kind, row: &[u64], part: &[f64]) -> bool
+    requires { Sized words.old coords.old }
 {
-    if store::layout::limit(k) <= store::count(words, k) {
+    if k.limit() <= store::count(words, k) {
         return false;
     }
-    if 18446744073709551615 <= store::next(words) {
+    if store::next(words) == u64::MAX {
         return false;
     }
-    if row.len() != store::layout::width(k) {
+    if row.len() != k.width() {
         return false;
     }
-    if store::layout::coord_width(k) < part.len() {
+    if k.coord_width() < part.len() {
         return false;
     }
     put_row(words, coords, k, row, part);
@@ -39,10 +76,7 @@ fn add_sized(words: &mut [u64], coords: &mut [f64], k: usize, row: &[u64], part:
 }
 
 // The same in tables of a map.
-fn add_row(words: &mut [u64], coords: &mut [f64], k: usize, row: &[u64], part: &[f64]) -> bool {
-    if 5 < k {
-        return false;
-    }
+fn add_row(words: &mut [u64], coords: &mut [f64], k: Kind, row: &[u64], part: &[f64]) -> bool {
     if !validity::is_map(words, coords) {
         return false;
     }
@@ -54,10 +88,10 @@ fn add_line(words: &mut [u64], coords: &mut [f64], points: &[f64]) -> bool {
     if !validity::is_map(words, coords) {
         return false;
     }
-    if 64 <= store::count(words, 2) {
+    if 64 <= store::count(words, Kind::StopLine) {
         return false;
     }
-    if 18446744073709551615 <= store::next(words) {
+    if store::next(words) == u64::MAX {
         return false;
     }
     if 192 < points.len() {
@@ -71,10 +105,10 @@ fn add_line(words: &mut [u64], coords: &mut [f64], points: &[f64]) -> bool {
 fn signal_sized(words: &mut [u64], coords: &mut [f64], points: &[f64], more: &[f64]) -> bool
     requires { Sized words.old coords.old }
 {
-    if 64 <= store::count(words, 3) {
+    if 64 <= store::count(words, Kind::Signal) {
         return false;
     }
-    if 18446744073709551615 <= store::next(words) {
+    if store::next(words) == u64::MAX {
         return false;
     }
     if 192 < points.len() {
@@ -102,16 +136,17 @@ fn add_light(words: &mut [u64], coords: &[f64], line: u64, list: &[u64]) -> bool
     if !validity::is_map(words, coords) {
         return false;
     }
-    if 128 <= store::count(words, 5) {
+    if 128 <= store::count(words, Kind::Rule) {
         return false;
     }
-    if 18446744073709551615 <= store::next(words) {
+    if store::next(words) == u64::MAX {
         return false;
     }
     if 16 < list.len() {
         return false;
     }
-    map::update::push_rule(words, 1, 0, 1, line, list, list);
+    let light = map::NewRule::Light { line: Some(line) };
+    map::update::push_rule(words, light, list, list);
     true
 }
 
@@ -120,7 +155,7 @@ fn control(words: &mut [u64], coords: &[f64], i: usize, list: &[u64]) -> bool {
     if !validity::is_map(words, coords) {
         return false;
     }
-    if store::count(words, 5) <= i {
+    if store::count(words, Kind::Rule) <= i {
         return false;
     }
     if 16 < list.len() {
@@ -135,159 +170,132 @@ fn drop_first(words: &mut [u64], coords: &mut [f64]) -> bool {
     if !validity::is_map(words, coords) {
         return false;
     }
-    if store::count(words, 5) <= 0 {
+    if store::count(words, Kind::Rule) <= 0 {
         return false;
     }
     map::update::drop_rule(words, coords, 0);
     true
 }
 
-fn get(words: &[u64], i: usize) -> u64 {
-    if i < words.len() { words[i] } else { 0 }
-}
-
-fn put(words: &mut [u64], i: usize, v: u64) {
-    if i < words.len() {
-        words[i] = v;
-    }
-}
-
-// One record more: of what, 0 lane .. 5 rule. Places are of 2 points, 4 points, a signal's height and bulbs, a crosswalk.
-fn add(
-    words: &mut [u64],
-    coords: &mut [f64],
-    what: u64,
-    two: &[f64],
-    four: &[f64],
-    more: &[f64],
-    edges: &[f64],
-    list: &[u64],
-) -> bool {
-    let number = get(words, 0);
-    match what {
-        0 => add_row(words, coords, 0, &[number, 7, 1, 0, 2, 1, 1, 2], two),
-        1 => add_row(words, coords, 1, &[number, 2], two),
-        2 => add_line(words, coords, four),
-        3 => add_signal(words, coords, two, more),
-        4 => add_row(words, coords, 4, &[number, 2, 2, 1, 4], edges),
-        _ => add_light(words, coords, number, list),
+// One record more of the kind.
+fn add(words: &mut [u64], coords: &mut [f64], k: Kind, list: &[u64]) -> bool {
+    let number = words.first().copied().unwrap_or(0);
+    match k {
+        Kind::Lane => add_row(words, coords, k, &[number, 7, 1, 0, 2, 1, 1, 2], &TWO),
+        Kind::Boundary => add_row(words, coords, k, &[number, 2], &TWO),
+        Kind::StopLine => add_line(words, coords, &FOUR),
+        Kind::Signal => add_signal(words, coords, &TWO, &MORE),
+        Kind::Crosswalk => add_row(words, coords, k, &[number, 2, 2, 1, 4], &EDGES),
+        Kind::Rule => add_light(words, coords, number, list),
     }
 }
 
 // So many times; how many were added.
-fn fill(words: &mut [u64], coords: &mut [f64], what: u64, list: &[u64], times: u64) -> u64 {
-    let two = [1.5; 6];
-    let four = [2.5; 12];
-    let more = [3.5; 13];
-    let edges = [4.5; 576];
-    let mut i = 0u64;
-    let mut done = 0u64;
-    while i < times {
-        if add(words, coords, what, &two, &four, &more, &edges, list) {
-            done = std::num::wrapping_add_u64(done, 1);
+fn fill(words: &mut [u64], coords: &mut [f64], k: Kind, list: &[u64], times: u64) -> u64 {
+    let mut done: u64 = 0;
+    for _ in 0..times {
+        if add(words, coords, k, list) {
+            done = done.saturating_add(1);
         }
-        i += 1;
     }
     done
 }
 
 // The controlled crosswalks of the first so many rules.
 fn control_all(words: &mut [u64], coords: &[f64], list: &[u64], times: usize) -> u64 {
-    let mut i = 0;
-    let mut done = 0u64;
-    while i < times {
+    let mut done: u64 = 0;
+    for i in 0..times {
         if control(words, coords, i, list) {
-            done = std::num::wrapping_add_u64(done, 1);
+            done = done.saturating_add(1);
         }
-        i += 1;
     }
     done
 }
 
-fn say(name: &[u8], n: u64) {
-    io::write_all(STDOUT_FILENO, name);
-    io::print_decimal(STDOUT_FILENO, n);
-    io::write_all(STDOUT_FILENO, b"\n");
-}
-
 // The points in use, where the tables are a map's.
-fn points(words: &[u64], coords: &[f64]) {
+fn print_points(rt: &impl Print, words: &[u64], coords: &[f64]) -> io::Result<()> {
     if !validity::is_map(words, coords) {
-        io::write_all(STDOUT_FILENO, b"no map\n");
-        return;
+        return println!(rt; "no map");
     }
-    say(b"points ", validity::points_used(words));
+    println!(rt; "points {}", validity::points_used(words))
 }
 
-// The next number, the counts, and the numbers of the last rows that there is room for.
-fn report(words: &[u64], coords: &[f64]) {
-    points(words, coords);
-    say(b"next ", get(words, 0));
-    say(b"lanes ", get(words, 1));
-    say(b"  last ", get(words, 511));
-    say(b"boundaries ", get(words, 2));
-    say(b"  last ", get(words, 773));
-    say(b"lines ", get(words, 3));
-    say(b"  last ", get(words, 901));
-    say(b"signals ", get(words, 4));
-    say(b"  last ", get(words, 1722));
-    say(b"crosswalks ", get(words, 5));
-    say(b"  last ", get(words, 1890));
-    say(b"rules ", get(words, 6));
+fn print_words(rt: &impl Print, words: &[u64], told: &[(&str, usize)]) -> io::Result<()> {
+    for (name, i) in told {
+        println!(rt; "{name} {}", words.get(*i).copied().unwrap_or(0))?;
+    }
+    Ok(())
 }
 
-// The rule at 13395, the last but two that there is room for: its number, its lists' counts and their last entries.
-fn lists(words: &[u64]) {
-    say(b"  rule ", get(words, 13395));
-    say(b"  lanes ", get(words, 13402));
-    say(b"  last lane ", get(words, 13418));
-    say(b"  crosswalks ", get(words, 13419));
-    say(b"  last crosswalk ", get(words, 13435));
-    say(b"  signals ", get(words, 13436));
-    say(b"  last signal ", get(words, 13452));
+fn report(rt: &impl Print, words: &[u64], coords: &[f64]) -> io::Result<()> {
+    print_points(rt, words, coords)?;
+    print_words(rt, words, &COUNTS)
 }
 
-// Each table filled, with tries past its room.
-fn fill_lanes(words: &mut [u64], coords: &mut [f64], list: &[u64]) {
-    say(b"boundaries added ", fill(words, coords, 1, list, 130));
-    say(b"lanes added ", fill(words, coords, 0, list, 66));
-    say(b"lines added ", fill(words, coords, 2, list, 66));
+// A table filled, with tries past its room.
+fn fill_kind(
+    rt: &impl Print,
+    words: &mut [u64],
+    coords: &mut [f64],
+    k: Kind,
+    list: &[u64],
+    times: u64,
+) -> io::Result<()> {
+    let done = fill(words, coords, k, list, times);
+    let name = match k {
+        Kind::Lane => "lanes",
+        Kind::Boundary => "boundaries",
+        Kind::StopLine => "lines",
+        Kind::Signal => "signals",
+        Kind::Crosswalk => "crosswalks",
+        Kind::Rule => "rules",
+    };
+    println!(rt; "{name} added {done}")
 }
 
-fn fill_rules(words: &mut [u64], coords: &mut [f64], list: &[u64]) {
-    say(b"signals added ", fill(words, coords, 3, list, 66));
-    say(b"crosswalks added ", fill(words, coords, 4, list, 34));
-    say(b"rules added ", fill(words, coords, 5, list, 130));
-    say(b"lists put ", control_all(words, coords, list, 130));
+// Each table filled: lanes after the boundaries that they name.
+fn fill_all(
+    rt: &impl Print,
+    words: &mut [u64],
+    coords: &mut [f64],
+    list: &[u64],
+) -> io::Result<()> {
+    fill_kind(rt, words, coords, Kind::Boundary, list, 130)?;
+    fill_kind(rt, words, coords, Kind::Lane, list, 66)?;
+    fill_kind(rt, words, coords, Kind::StopLine, list, 66)?;
+    fill_kind(rt, words, coords, Kind::Signal, list, 66)?;
+    fill_kind(rt, words, coords, Kind::Crosswalk, list, 34)?;
+    fill_kind(rt, words, coords, Kind::Rule, list, 130)?;
+    println!(rt; "lists put {}", control_all(words, coords, list, 130))
+}
+
+// A word written over, where there is one.
+fn put(words: &mut [u64], i: usize, v: u64) {
+    if let Some(word) = words.get_mut(i) {
+        *word = v;
+    }
 }
 
 // A point too many in boundary 0, and not; rules less, and more with short lists.
-fn edit_all(words: &mut [u64], coords: &mut [f64], short: &[u64]) {
+fn edit_all(rt: &impl Print, words: &mut [u64], coords: &mut [f64]) -> io::Result<()> {
     put(words, 520, 3);
-    points(words, coords);
+    print_points(rt, words, coords)?;
     put(words, 520, 2);
     drop_first(words, coords);
     drop_first(words, coords);
-    report(words, coords);
-    lists(words);
-    say(b"rules added ", fill(words, coords, 5, short, 3));
+    report(rt, words, coords)?;
+    print_words(rt, words, &LISTS)?;
+    fill_kind(rt, words, coords, Kind::Rule, &[9; 3], 3)
 }
 
-fn play(words: &mut [u64], coords: &mut [f64], list: &[u64], short: &[u64]) {
-    put(words, 0, 1);
-    report(words, coords);
-    fill_lanes(words, coords, list);
-    fill_rules(words, coords, list);
-    report(words, coords);
-    lists(words);
-    edit_all(words, coords, short);
-    report(words, coords);
-}
-
-fn main() {
-    let mut words = [0u64; 13671];
-    let mut coords = [0.0f64; 105280];
-    let list = [7u64; 16];
-    let short = [9u64; 3];
-    play(&mut words, &mut coords, &list, &short);
+fn main(rt: HostRuntime) -> io::Result<()> {
+    let mut words = vec![in rt.alloc(); 0u64; 13671]?;
+    let mut coords = vec![in rt.alloc(); 0.0f64; 105280]?;
+    put(&mut words, 0, 1);
+    report(&rt, &words, &coords)?;
+    fill_all(&rt, &mut words, &mut coords, &[7; 16])?;
+    report(&rt, &words, &coords)?;
+    print_words(&rt, &words, &LISTS)?;
+    edit_all(&rt, &mut words, &mut coords)?;
+    report(&rt, &words, &coords)
 }

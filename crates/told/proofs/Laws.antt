@@ -1,7 +1,7 @@
 -- What is told of an answer is told of any answer that is equal to it. Assumes nothing.
 use Prim.Native.Nat.{ℕ}
 use mathlib.Core.Path.{◌≡◌}
-use mathlib.Core.Option.{Option}
+use Rattle.std.specs.Prelude.{Option}
 use Rattle.refusal.specs.Answer.{Answer}
 use Rattle.told.specs.Told.{Told, always, perhaps}
 

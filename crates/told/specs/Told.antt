@@ -1,6 +1,5 @@
 -- What a function for other languages tells of an answer: its result is a code, and the answer is written into memory that was lent.
-use Rattle.std.specs.Prelude.{ℕ, ◌≡◌}
-use Rattle.std.proofs.Math.Option.{Option, none, some}
+use Rattle.std.specs.Prelude.{ℕ, ◌≡◌, Option, None, Some}
 use Rattle.refusal.specs.Answer.{Answer, refused, done}
 
 -- an answer is written; or nothing is, and the number says why
@@ -20,8 +19,8 @@ always (done a) = written a
 -- of a call that may have no answer
 abbrev pub perhaps : {A : Type 0} → Answer (Option A) → Outcome A
 perhaps (refused n ds) = untouched n
-perhaps (done none) = untouched no_answer
-perhaps (done (some a)) = written a
+perhaps (done None) = untouched no_answer
+perhaps (done (Some a)) = written a
 
 abbrev pub code_of : {A : Type 0} → Outcome A → ℕ
 code_of (written a) = 0

@@ -2,7 +2,7 @@
 use Prim.Native.Nat.{ℕ, zero, suc, ◌+◌, ◌*◌, ◌^◌, ◌≤◌, ◌<◌}
 use mathlib.Core.Path.{◌≡◌, refl, sym, ◌∙◌}
 use mathlib.Core.Bool.{Bool, true, false, not, ◌&&◌, ◌||◌, cond}
-use mathlib.Core.Option.{Option, none, some}
+use Rattle.std.specs.Prelude.{Option, None, Some}
 use mathlib.Core.List.{List}
 use native.Mathlib.Nat.{zero-add}
 use native.Mathlib.Omega.{arith}
@@ -94,16 +94,16 @@ list_is n f xs h = rw (few (length xs) n h)
 module _ {A : Type 0} where
   option_there : (f : Format A) (o : Option A) → (option f).fits o ≡ if_there f.fits o
   unfolding option via tagged nothing number if_there
-  option_there f none = refl
-  option_there f (some a) = refl
+  option_there f None = refl
+  option_there f (Some a) = refl
 
-  there_cond : (p : A → Bool) (b : Bool) (a : A) → if_there p (cond b (some a) none) ≡ cond b (p a) true
+  there_cond : (p : A → Bool) (b : Bool) (a : A) → if_there p (cond b (Some a) None) ≡ cond b (p a) true
   unfolding if_there
   there_cond p true a = refl
   there_cond p false a = refl
 
-  pub option_is : (f : Format A) (b : Bool) (a : A) → (option f).fits (cond b (some a) none) ≡ cond b (f.fits a) true
-  option_is f b a = option_there f (cond b (some a) none) ∙ there_cond f.fits b a
+  pub option_is : (f : Format A) (b : Bool) (a : A) → (option f).fits (cond b (Some a) None) ≡ cond b (f.fits a) true
+  option_is f b a = option_there f (cond b (Some a) None) ∙ there_cond f.fits b a
 
 pub cond_true : (b : Bool) → cond b true true ≡ true
 cond_true true = refl

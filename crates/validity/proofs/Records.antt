@@ -2,7 +2,7 @@
 use Prim.Native.Nat.{ℕ, zero, suc, ◌+◌, ◌*◌, ◌^◌, ◌≤◌, ◌<◌}
 use mathlib.Core.Path.{◌≡◌, refl, sym, ap, ◌∙◌}
 use mathlib.Core.Bool.{true, not, cond}
-use mathlib.Core.Option.{none, some}
+use Rattle.std.specs.Prelude.{None, Some}
 use mathlib.Core.List.{List}
 use native.Mathlib.Nat.{add-zero, add_assoc}
 use native.Mathlib.Omega.{arith}
@@ -139,7 +139,7 @@ module _ (ws : List ℕ) (small : (j : ℕ) → get_or ws j 0 < 2 ^ 64) (room : 
         rw t (every_same bulb.fits (bulb_at (row_of ws 3 i) (coords_of cs 3 i)) (good_bulb ws cs (903 + i * 13) (49152 + i * 205)) (get_or ws (903 + i * 13 + 4) 0) (λ j g. bulb_is j (omega arith))))
         (λ t. rw t))
 
-    height_there : (option height).fits (cond (flag_at (row_of ws 3 i) 3) (some (get_or (coords_of cs 3 i) 192 nan)) none) ≡ good_height ws cs (903 + i * 13) (49152 + i * 205)
+    height_there : (option height).fits (cond (flag_at (row_of ws 3 i) 3) (Some (get_or (coords_of cs 3 i) 192 nan)) None) ≡ good_height ws cs (903 + i * 13) (49152 + i * 205)
     unfolding good_height flag_at
     height_there =
         rw (option_is height (not (eqb (get_or (row_of ws 3 i) 3 0) 0)) (get_or (coords_of cs 3 i) 192 nan), height_is (get_or (coords_of cs 3 i) 192 nan), signal_height, signal_word 3 (omega arith))
@@ -211,12 +211,12 @@ module _ (ws : List ℕ) (small : (j : ℕ) → get_or ws j 0 < 2 ^ 64) (room : 
         )
         (and_true _)
 
-    line_there : (option number).fits (cond (flag_at (row_of ws 5 i) 3) (some (get_or (row_of ws 5 i) 4 0)) none) ≡ true
+    line_there : (option number).fits (cond (flag_at (row_of ws 5 i) 3) (Some (get_or (row_of ws 5 i) 4 0)) None) ≡ true
     line_there =
         option_is number (flag_at (row_of ws 5 i) 3) (get_or (row_of ws 5 i) 4 0)
         ∙ rw (number_true (get_or (row_of ws 5 i) 4 0) (row_small 5 i (omega arith) hi 4)) (cond_true (flag_at (row_of ws 5 i) 3))
 
-    shape_there : (option polyline).fits (cond (flag_at (row_of ws 5 i) 5) (some (line_at (coords_of cs 5 i) 0 (get_or (row_of ws 5 i) 6 0))) none)
+    shape_there : (option polyline).fits (cond (flag_at (row_of ws 5 i) 5) (Some (line_at (coords_of cs 5 i) 0 (get_or (row_of ws 5 i) 6 0))) None)
         ≡ cond (not (eqb (get_or ws (1895 + i * 92 + 5) 0) 0)) (good_line cs (80704 + i * 192) (get_or ws (1895 + i * 92 + 6) 0)) true
     unfolding flag_at
     shape_there =

@@ -2,7 +2,7 @@
 use Prim.Native.Nat.{ℕ, zero, suc, ◌+◌, ◌*◌, ◌^◌, ◌≤◌, ◌<◌}
 use mathlib.Core.Path.{◌≡◌, refl, sym, ap, ◌∙◌}
 use mathlib.Core.Bool.{Bool, true, false, not, ◌&&◌, cond}
-use mathlib.Core.Option.{none, some}
+use Rattle.std.specs.Prelude.{None, Some}
 use mathlib.Core.List.{List}
 use native.Mathlib.Omega.{arith}
 use native.Mathlib.Nat.{eq-or-lt_of_le}
@@ -48,7 +48,7 @@ length_line : (c : List Float) (o n : ℕ) → length (line_at c o n) ≡ n
 unfolding line_at
 length_line c o n = length-list_to _ n
 
-size_is : (b : Bool) (c : List Float) (o n : ℕ) → size_of length (cond b (some (line_at c o n)) none) ≡ cond b n 0
+size_is : (b : Bool) (c : List Float) (o n : ℕ) → size_of length (cond b (Some (line_at c o n)) None) ≡ cond b n 0
 unfolding size_of
 size_is true c o n = length_line c o n
 size_is false c o n = refl

@@ -1,48 +1,52 @@
 -- An index below a kind's count is below its room. Assumes nothing.
-use Prim.Native.Nat.{ℕ, ◌+◌, ◌≤◌, ◌<◌}
+use Prim.Native.Nat.{ℕ, zero, suc, ◌+◌, ◌≤◌, ◌<◌}
 use mathlib.Core.Bool.{Bool, true, false}
-use mathlib.Core.Path.{◌≡◌}
-use mathlib.Core.List.{List}
+use mathlib.Core.Path.{◌≡◌, refl}
+use mathlib.Core.List.{List, [], ◌∷◌}
 use native.Mathlib.Omega.{arith}
 use borrow.Author.Tests.{lt-leb, le-leb}
 use lib.Dec.{leb}
-use lib.ListN.{get_or}
+use lib.Ieee.{Float}
+use lib.ListN.{get_or, length}
 use Rattle.rows.specs.Lists.{every}
 use Rattle.rows.proofs.Indexed.{tab, list_to_tab}
 use Rattle.row_tests.specs.Flat.{good_counts}
-use Rattle.store.specs.Layout.{limit_of, count_of, SizedWords}
+use Rattle.store.specs.declared.Kind.{Kind}
+use Rattle.store.specs.declared.Kind.TheVariants.{Lane, Boundary, StopLine, Signal, Crosswalk, Rule}
+use Rattle.store.specs.Kinds.{kind_number}
+use Rattle.store.specs.Layout.{limit_of, width_of, coord_width_of, place_of, coord_place_of, count_of, SizedWords, Sized}
+use Rattle.store.proofs.KindLaws.{kind_below}
+use Rattle.store.proofs.StoreLaws.{row_ends, coords_end}
 
-room : (ws : List ℕ) → SizedWords ws → (k i m : ℕ) → k ≡ m → m < 6 → i < count_of ws k → i < limit_of m
-room ws ok k i m e hm h = let g : i < count_of ws m = rw (← e) h in omega (arith, ok.counts m hm)
+-- a row's words and coordinates lie in the tables
+module _ (ws : List ℕ) (ok : SizedWords ws) (k : Kind) (i at : ℕ) (h : i < count_of ws (kind_number k)) (ea : at ≡ place_of (kind_number k) i) where
+  below_room : i < limit_of (kind_number k)
+  below_room = omega (arith, ok.counts (kind_number k) (kind_below k))
 
-module _ (ws : List ℕ) (ok : SizedWords ws) (k i : ℕ) (h : i < count_of ws k) where
-  pub in_lanes : k ≡ 0 → i < 64
-  unfolding limit_of
-  in_lanes e = room ws ok k i 0 e (omega arith) h
+  pub word_room : at + width_of (kind_number k) ≤ length ws
+  word_room = omega (arith, ok.room, row_ends (kind_number k) i (kind_below k) below_room)
 
-  pub in_boundaries : k ≡ 1 → i < 128
-  unfolding limit_of
-  in_boundaries e = room ws ok k i 1 e (omega arith) h
+pub record RowRoom (ws : List ℕ) (cs : List Float) (k : Kind) (at o : ℕ) : Type 0 where
+  pub words : at + width_of (kind_number k) ≤ length ws
+  pub coords : o + coord_width_of (kind_number k) ≤ length cs
 
-  pub in_lines : k ≡ 2 → i < 64
-  unfolding limit_of
-  in_lines e = room ws ok k i 2 e (omega arith) h
+pub row_room : (ws : List ℕ) (cs : List Float) → Sized ws cs → (k : Kind) (i at o : ℕ) → i < count_of ws (kind_number k)
+    → at ≡ place_of (kind_number k) i → o ≡ coord_place_of (kind_number k) i → RowRoom ws cs k at o
+row_room ws cs ok k i at o h ea eo =
+    record {
+      words = word_room ws ok.words k i at h ea;
+      coords = omega (arith, ok.coords, coords_end (kind_number k) i (kind_below k) (below_room ws ok.words k i at h ea));
+    }
 
-  pub in_signals : k ≡ 3 → i < 64
-  unfolding limit_of
-  in_signals e = room ws ok k i 3 e (omega arith) h
-
-  pub in_crosswalks : k ≡ 4 → i < 32
-  unfolding limit_of
-  in_crosswalks e = room ws ok k i 4 e (omega arith) h
-
-  pub in_rules : k ≡ 5 → i < 128
-  unfolding limit_of
-  in_rules e = room ws ok k i 5 e (omega arith) h
-
--- there are six kinds
-pub none : (k : ℕ) → k < 6 → (k ≡ 0 → ⊥) → (k ≡ 1 → ⊥) → (k ≡ 2 → ⊥) → (k ≡ 3 → ⊥) → (k ≡ 4 → ⊥) → (k ≡ 5 → ⊥) → ⊥
-none k h a b c d e f = omega arith
+-- the kinds in the order of their tables
+pub kinds_at : (j : ℕ) (d : Kind) → j < 6 → kind_number (get_or (Lane ∷ Boundary ∷ StopLine ∷ Signal ∷ Crosswalk ∷ Rule ∷ []) j d) ≡ j
+kinds_at zero d h = refl
+kinds_at (suc zero) d h = refl
+kinds_at (suc (suc zero)) d h = refl
+kinds_at (suc (suc (suc zero))) d h = refl
+kinds_at (suc (suc (suc (suc zero)))) d h = refl
+kinds_at (suc (suc (suc (suc (suc zero))))) d h = refl
+kinds_at (suc (suc (suc (suc (suc (suc j)))))) d h = absurd (let z : ⊥ = omega arith in z)
 
 -- a count against its kind's room
 unfoldable pub fits_in : List ℕ → ℕ → Bool

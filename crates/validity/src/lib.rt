@@ -2,71 +2,62 @@
 #![tactic(auto)]
 
 ghost use Rattle.std.specs.Prelude.{◌≡◌, ◌&&◌, not, cond, eqb, ◌+◌, ◌*◌, ◌≤◌, ◌<◌, length};
+ghost use Rattle.store.specs.Kinds.{kind_number};
 ghost use Rattle.store.specs.Layout.{Sized, SizedWords, count_of, limit_of, all_words};
 ghost use Rattle.map.specs.Tables.{is_map_tables};
 ghost use Rattle.row_tests.specs.Flat.{good_row, good_rows, good_table, good_tables, good_counts, crosswalk_points, row_points, table_points, all_points, Few};
 
+use store::Kind;
+
 // Row i of kind k.
-pub fn row_ok(words: &[u64], coords: &[f64], k: usize, i: usize) -> bool
-    requires { Sized words.now coords.now × (k < 6) × (i < count_of words.now k) }
-    ensures { result ≡ good_row k words.now coords.now i }
+#[tactic(auto, using(crate::proofs::Within::row_room), unfolding(store::specs::Layout::width_of, store::specs::Layout::coord_width_of))]
+pub fn row_ok(words: &[u64], coords: &[f64], k: Kind, i: usize) -> bool
+    requires { Sized words.now coords.now × (i < count_of words.now (kind_number k)) }
+    ensures { result ≡ good_row (kind_number k) words.now coords.now i }
 {
+    let at = k.place(i);
+    let o = k.coord_place(i);
     match k {
-        0 => row_tests::lane_ok(words, coords, 7 + i * 8, i * 192),
-        1 => row_tests::string_ok(words, coords, 519 + i * 2, 12288 + i * 192),
-        2 => row_tests::string_ok(words, coords, 775 + i * 2, 36864 + i * 192),
-        3 => row_tests::signal_ok(words, coords, 903 + i * 13, 49152 + i * 205),
-        4 => row_tests::crosswalk_ok(words, coords, 1735 + i * 5, 62272 + i * 576),
-        5 => row_tests::rule_ok(words, coords, 1895 + i * 92, 80704 + i * 192),
-        _ => false,
+        Kind::Lane => row_tests::lane_ok(words, coords, at, o),
+        Kind::Boundary | Kind::StopLine => row_tests::string_ok(words, coords, at, o),
+        Kind::Signal => row_tests::signal_ok(words, coords, at, o),
+        Kind::Crosswalk => row_tests::crosswalk_ok(words, coords, at, o),
+        Kind::Rule => row_tests::rule_ok(words, coords, at, o),
     }
 }
 
 // All rows of kind k.
-pub fn rows_ok(words: &[u64], coords: &[f64], k: usize) -> bool
-    requires { Sized words.now coords.now × (k < 6) }
-    ensures { result ≡ good_rows words.now coords.now k }
+pub fn rows_ok(words: &[u64], coords: &[f64], k: Kind) -> bool
+    requires { Sized words.now coords.now }
+    ensures { result ≡ good_rows words.now coords.now (kind_number k) }
 {
     let n = store::count(words, k);
-    let mut i = 0;
-    while i < n {
+    for i in 0..n {
         if !row_ok(words, coords, k, i) {
             return false;
         }
-        i += 1;
     }
     true
 }
 
 // The numbers of kind k rise and are below the next number, and its rows are right.
-pub fn table_ok(words: &[u64], coords: &[f64], k: usize) -> bool
-    requires { Sized words.now coords.now × (k < 6) }
-    ensures { result ≡ good_table words.now coords.now k }
+pub fn table_ok(words: &[u64], coords: &[f64], k: Kind) -> bool
+    requires { Sized words.now coords.now }
+    ensures { result ≡ good_table words.now coords.now (kind_number k) }
 {
     let n = store::count(words, k);
     let next = store::next(words);
-    if !rows::rising(
-        words,
-        store::layout::base(k),
-        store::layout::width(k),
-        n,
-        next,
-    ) {
-        return false;
-    }
-    rows_ok(words, coords, k)
+    rows::rising(words, k.base(), k.width(), n, next) && rows_ok(words, coords, k)
 }
 
 pub fn tables_ok(words: &[u64], coords: &[f64]) -> bool
     requires { Sized words.now coords.now }
     ensures { result ≡ good_tables words.now coords.now }
 {
-    let mut k = 0;
-    while k < 6 {
+    for k in Kind::ALL {
         if !table_ok(words, coords, k) {
             return false;
         }
-        k += 1;
     }
     true
 }
@@ -76,13 +67,10 @@ pub fn counts_ok(words: &[u64]) -> bool
     requires { length words.now ≡ all_words }
     ensures { result ≡ good_counts words.now }
 {
-    let mut k = 0;
-    while k < 6 {
-        let n = rows::index(words[1 + k]);
-        if store::layout::limit(k) < n {
+    for k in Kind::ALL {
+        if (k.limit() as u64) < words[k.count_at()] {
             return false;
         }
-        k += 1;
     }
     true
 }
@@ -117,36 +105,30 @@ fn crosswalk_points(words: &[u64], at: usize) -> u64
 }
 
 // The points of row i of kind k.
-pub fn row_points(words: &[u64], k: usize, i: usize) -> u64
-    requires { SizedWords words.now × (k < 6) × (i < count_of words.now k) × (row_points k words.now i ≤ 192) }
-    ensures { result ≡ row_points k words.now i }
+#[tactic(auto, using(crate::proofs::Within::word_room), unfolding(store::specs::Layout::width_of))]
+pub fn row_points(words: &[u64], k: Kind, i: usize) -> u64
+    requires { SizedWords words.now × (i < count_of words.now (kind_number k)) × (row_points (kind_number k) words.now i ≤ 192) }
+    ensures { result ≡ row_points (kind_number k) words.now i }
 {
+    let at = k.place(i);
     match k {
-        0 => points_if(words[7 + i * 8 + 6], words[7 + i * 8 + 7]),
-        1 => words[519 + i * 2 + 1],
-        2 => words[775 + i * 2 + 1],
-        3 => words[903 + i * 13 + 2],
-        4 => crosswalk_points(words, 1735 + i * 5),
-        5 => sign_points(
-            words[1895 + i * 92 + 1],
-            words[1895 + i * 92 + 5],
-            words[1895 + i * 92 + 6],
-        ),
-        _ => 0,
+        Kind::Lane => points_if(words[at + 6], words[at + 7]),
+        Kind::Boundary | Kind::StopLine => words[at + 1],
+        Kind::Signal => words[at + 2],
+        Kind::Crosswalk => crosswalk_points(words, at),
+        Kind::Rule => sign_points(words[at + 1], words[at + 5], words[at + 6]),
     }
 }
 
 // The points of all rows of kind k.
-pub fn table_points(words: &[u64], k: usize) -> u64
-    requires { SizedWords words.now × (k < 6) × Few words.now }
-    ensures { result ≡ table_points words.now k }
+pub fn table_points(words: &[u64], k: Kind) -> u64
+    requires { SizedWords words.now × Few words.now }
+    ensures { result ≡ table_points words.now (kind_number k) }
 {
     let n = store::count(words, k);
     let mut sum = 0;
-    let mut i = 0;
-    while i < n {
+    for i in 0..n {
         sum += row_points(words, k, i);
-        i += 1;
     }
     sum
 }
@@ -157,10 +139,8 @@ pub fn points_used(words: &[u64]) -> u64
     ensures { result ≡ all_points words.now }
 {
     let mut sum = 0;
-    let mut k = 0;
-    while k < 6 {
+    for k in Kind::ALL {
         sum += table_points(words, k);
-        k += 1;
     }
     sum
 }

@@ -14,13 +14,13 @@ returns-then-n-gt4 c = rw (← c.index-n.ensures, lt-leb _ _ c.if-n-gt4.true)
 
 pub loop-j-init : goal.loop-j-init
 unfolding good_bulbs
-loop-j-init c = (omega arith, rw (← c.index-n.ensures, le-leb _ _ c.if-n-gt4.false, list_to_tab (good_bulb _ _ _ _) _, sub-zero))
+loop-j-init c = rw (← c.index-n.ensures, le-leb _ _ c.if-n-gt4.false, list_to_tab (good_bulb _ _ _ _) _, sub-zero)
 
 pub returns-then-not-bulb_ok : goal.returns-then-not-bulb_ok
-returns-then-not-bulb_ok c = every_stop (λ b. b) _ _ _ _ c.loop-j.invariant.1 (tab_step (good_bulb _ _ _ _) _ _ c.loop-j-test.true) (sym c.bulb_ok.ensures ∙ c.if-not-bulb_ok.true)
+returns-then-not-bulb_ok c = every_stop (λ b. b) _ _ _ _ c.loop-j.invariant (tab_step (good_bulb _ _ _ _) _ _ c.loop-j-test.true) (sym c.bulb_ok.ensures ∙ c.if-not-bulb_ok.true)
 
 pub loop-j-preserved : goal.loop-j-preserved
-loop-j-preserved c = (omega arith, every_next (λ b. b) _ _ _ _ c.loop-j.invariant.1 (tab_step (good_bulb _ _ _ _) _ _ c.loop-j-test.true) (sym c.bulb_ok.ensures ∙ c.if-not-bulb_ok.false))
+loop-j-preserved c = every_next (λ b. b) _ _ _ _ c.loop-j.invariant (tab_step (good_bulb _ _ _ _) _ _ c.loop-j-test.true) (sym c.bulb_ok.ensures ∙ c.if-not-bulb_ok.false)
 
 pub returns : goal.returns
-returns c = every_end (λ b. b) _ _ c.loop-j.invariant.1 (tab_none (good_bulb _ _ _ _) _ _ c.loop-j-test.false)
+returns c = every_end (λ b. b) _ _ c.loop-j.invariant (tab_none (good_bulb _ _ _ _) _ _ c.loop-j-test.false)

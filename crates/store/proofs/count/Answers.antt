@@ -3,4 +3,4 @@ use Rattle.store.proofs.count.Goals as goal
 
 pub returns : goal.returns
 unfolding count_of
-returns c = c.index.ensures
+returns c = rw (c.index.ensures, c.count_at.ensures)

@@ -3,8 +3,8 @@ use Rattle.table_export.proofs.Laws.{fold_done, fold_refused}
 use borrow.Author.Rules.{rules}
 use Rattle.table_export.proofs.lane_map_fold.Goals as goal
 
-pub returns-in-Done : goal.returns-in-Done
-returns-in-Done c = search (rules, fold_done)
+pub returns-in-Ok : goal.returns-in-Ok
+returns-in-Ok c = search (rules, fold_done)
 
-pub returns-in-Refused : goal.returns-in-Refused
-returns-in-Refused c = search (rules, fold_refused)
+pub returns-in-Err : goal.returns-in-Err
+returns-in-Err c = search (rules, fold_refused)

@@ -4,7 +4,7 @@ use Rattle.map.proofs.SoundLaws.{sound}
 use Rattle.tables_filled.proofs.add_line.Goals as goal
 
 pub count-requires : goal.count-requires
-count-requires c = ((sound _ _ (sym c.is_map.ensures ∙ c.if-not-is_map.false)).sized.words, omega arith)
+count-requires c = (sound _ _ (sym c.is_map.ensures ∙ c.if-not-is_map.false)).sized.words
 
 pub next-requires : goal.next-requires
 next-requires c = (sound _ _ (sym c.is_map.ensures ∙ c.if-not-is_map.false)).sized.words

@@ -3,7 +3,7 @@ use Rattle.map.proofs.UpdateLaws.{rule_dropped}
 use Rattle.map.proofs.update.drop_rule.Goals as goal
 
 pub drop_coords-requires : goal.drop_coords-requires
-drop_coords-requires c = (c.requires.0.coords, omega arith, omega (arith, c.count-n.ensures), omega (arith, c.count-n.ensures, c.requires.0.words.counts 5 (omega arith)))
+drop_coords-requires c = (c.requires.0.coords, omega (arith, c.count-n.ensures), omega (arith, c.count-n.ensures, c.requires.0.words.counts 5 (omega arith)))
 
 pub returns : goal.returns
 returns c = rw (c.drop_row.ensures, c.drop_coords.ensures)

@@ -5,10 +5,10 @@ use Rattle.map.proofs.UpdateLaws.{line_limit, line_room}
 use Rattle.map.proofs.update.push_line.Goals as goal
 
 pub put_coords-requires : goal.put_coords-requires
-put_coords-requires c = (c.requires.0.coords, omega arith, omega (arith, line_limit, c.count-n.ensures), omega (arith, line_room))
+put_coords-requires c = (c.requires.0.coords, omega (arith, line_limit, c.count-n.ensures), omega (arith, line_room))
 
 pub push_row-requires : goal.push_row-requires
-push_row-requires c = (c.requires.0.words, omega arith, omega (arith, line_limit, c.requires.1), sym line_wide)
+push_row-requires c = (c.requires.0.words, omega (arith, line_limit, c.requires.1), sym line_wide)
 
 pub set_next-requires : goal.set_next-requires
 set_next-requires c = push_sized c.args.words.now c.requires.0.words 2 (omega arith) _ (sym line_wide) (omega (arith, line_limit, c.requires.1)) _ c.push_row.ensures

@@ -4,18 +4,17 @@ use Rattle.map.proofs.UpdateLaws.{push_sized, signal_wide, signal_limit, signal_
 use Rattle.map.proofs.update.push_signal.Goals as goal
 
 pub put_coords-requires : goal.put_coords-requires
-put_coords-requires c = (c.requires.0.coords, omega arith, omega (arith, signal_limit, c.count-n.ensures), omega (arith, signal_room, c.requires.7))
+put_coords-requires c = (c.requires.0.coords, omega (arith, signal_limit, c.count-n.ensures), omega (arith, signal_room, c.requires.7))
 
 pub put_coords-requires-2 : goal.put_coords-requires-2
 put_coords-requires-2 c = (
   housing_long c.args.coords.now c.requires.0.coords c.count-n.result (omega (arith, c.count-n.ensures, c.requires.1)) c.args.points.now c.requires.7 _ c.put_coords.ensures,
-  omega arith,
   omega (arith, signal_limit, c.count-n.ensures, c.requires.1),
   omega (arith, signal_room, c.requires.8),
 )
 
 pub push_row-requires : goal.push_row-requires
-push_row-requires c = (c.requires.0.words, omega arith, omega (arith, signal_limit, c.requires.1), c.requires.3 ∙ sym signal_wide)
+push_row-requires c = (c.requires.0.words, omega (arith, signal_limit, c.requires.1), c.requires.3 ∙ sym signal_wide)
 
 pub set_next-requires : goal.set_next-requires
 set_next-requires c = push_sized c.args.words.now c.requires.0.words 3 (omega arith) c.args.row.now (c.requires.3 ∙ sym signal_wide) (omega (arith, signal_limit, c.requires.1)) _ c.push_row.ensures
