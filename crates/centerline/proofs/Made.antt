@@ -2,13 +2,13 @@
 use Prim.Native.Nat.{ℕ, suc, ◌-◌, ◌*◌, ◌^◌, ◌≤◌, ◌<◌, max}
 use mathlib.Core.Path.{◌≡◌, refl, sym, ap, ◌∙◌}
 use mathlib.Core.List.{List, [], ◌∷◌, ◌++◌, reverse, reverse-cons}
-use mathlib.Core.Option.{none, some}
+use Rattle.std.specs.Prelude.{Some, None}
 use native.Mathlib.Omega.{arith}
 use lib.ListN.{length, get_or}
 use lib.Dec.{T}
 use lib.IntN.{pos}
 use lib.Ieee.{Float, nan, binary64, in_float}
-use borrow.Author.Tests.{ne_eqb, le-leb}
+use borrow.Author.Tests.{le-leb}
 use Rattle.rows.specs.Lists.{or_default, list_to}
 use Rattle.geometry.specs.declared.Point3.{Point3}
 use Rattle.geometry.specs.declared.Location.{Location}
@@ -58,11 +58,11 @@ resampled_at xs count i total s l p t e w q = rw (← t, ← e, ← at_some xs s
 pub resample_none : (xs : Polyline) (n : ℕ) → length xs ≡ 0 → [] ≡ resample_count xs n
 unfolding resample_count
 resample_none [] n h = refl
-resample_none (x ∷ xs) n h = absurd (let z : ⊥ = omega arith in z)
+resample_none (x ∷ xs) n h = absurd (omega arith)
 
 resample_some : (xs : Polyline) (n : ℕ) → 0 < length xs → resample_count xs n ≡ list_to (resampled xs (max 2 n)) (max 2 n)
 unfolding resample_count
-resample_some [] n h = absurd (let z : ⊥ = omega arith in z)
+resample_some [] n h = absurd (omega arith)
 resample_some (x ∷ xs) n h = refl
 
 module _ (xs : Polyline) (n count : ℕ) (h : 0 < length xs) (e : count ≡ max 2 n) where
@@ -87,28 +87,24 @@ module _ (a : Line) (e : a.count ≡ 0) where
   unfolding points_of list_to
   no_points = rw e
 
-  pub no_line : line_option a ≡ none
-  unfolding line_option
-  no_line = rw e
-
 -- ---- the centreline
 
-pub center_left : (xs ys : Polyline) → length xs ≡ 0 → none ≡ centerline xs ys
+pub center_left : (xs ys : Polyline) → length xs ≡ 0 → None ≡ centerline xs ys
 unfolding centerline
 center_left [] ys h = refl
-center_left (x ∷ xs) ys h = absurd (let z : ⊥ = omega arith in z)
+center_left (x ∷ xs) ys h = absurd (omega arith)
 
-pub center_right : (xs ys : Polyline) → length ys ≡ 0 → none ≡ centerline xs ys
+pub center_right : (xs ys : Polyline) → length ys ≡ 0 → None ≡ centerline xs ys
 unfolding centerline
 center_right [] ys h = refl
 center_right (x ∷ xs) [] h = refl
-center_right (x ∷ xs) (y ∷ ys) h = absurd (let z : ⊥ = omega arith in z)
+center_right (x ∷ xs) (y ∷ ys) h = absurd (omega arith)
 
 center_some : (xs ys : Polyline) → 0 < length xs → 0 < length ys
-    → centerline xs ys ≡ some (list_to (middle xs ys (max 2 (max (length xs) (length ys)))) (max 2 (max (length xs) (length ys))))
+    → centerline xs ys ≡ Some (list_to (middle xs ys (max 2 (max (length xs) (length ys)))) (max 2 (max (length xs) (length ys))))
 unfolding centerline
-center_some [] ys h k = absurd (let z : ⊥ = omega arith in z)
-center_some (x ∷ xs) [] h k = absurd (let z : ⊥ = omega arith in z)
+center_some [] ys h k = absurd (omega arith)
+center_some (x ∷ xs) [] h k = absurd (omega arith)
 center_some (x ∷ xs) (y ∷ ys) h k = refl
 
 module _ (xs ys : Polyline) (n : ℕ) (e : n ≡ max (length xs) (length ys)) (h : 0 < length xs) (k : 0 < length ys) (a b : Line)
@@ -132,9 +128,8 @@ module _ (xs ys : Polyline) (n : ℕ) (e : n ≡ max (length xs) (length ys)) (h
   pub sides_few : n ≤ 64 → a.count ≤ 64
   sides_few l = omega (arith, line_count a (resampled xs sides) sides left_is)
 
-  pub center_is : (c : Line) → points_of c ≡ halfway_to a.coords b.coords a.count → line_option c ≡ centerline xs ys
+  pub center_is : (c : Line) → points_of c ≡ halfway_to a.coords b.coords a.count → line_option (Some c) ≡ centerline xs ys
   unfolding line_option
   center_is c ec =
       let f : points_of c ≡ list_to (middle xs ys sides) sides = ec ∙ halfway_is in
-      let m = line_count c (middle xs ys sides) sides f in
-      rw (ne_eqb c.count 0 (λ z. let q : ⊥ = omega (arith, m) in q), f, center_some xs ys h k, ← e)
+      rw (f, center_some xs ys h k, ← e)

@@ -10,10 +10,7 @@ use lib.Ieee.{Float, nan, inf, fin, lt, eq, le, below, level, up, down}
 use lib.Ieee.Fits.{down_pos}
 use lib.Ieee.Positive.{through}
 use borrow.Author.Tests.{ltb-true, ltb-false, eqb-true, eq-eqb}
-
-split : {A : Type 0} (b : Bool) → (b ≡ true → A) → (b ≡ false → A) → A
-split true f g = f refl
-split false f g = g refl
+use Rattle.geometry.proofs.Doubles.{split}
 
 -- ±a ≤ ±b
 abbrev Order : Bool → ℕ → Bool → ℕ → Type 0

@@ -3,7 +3,7 @@ use Prim.Native.Nat.{ℕ, zero, suc, ◌+◌, ◌-◌, ◌≤◌, ◌<◌}
 use mathlib.Core.Path.{◌≡◌, refl, sym, ap, ◌∙◌, subst}
 use mathlib.Core.Bool.{Bool, true, false, ◌&&◌, cond}
 use mathlib.Core.Logic.{⊎_elim}
-use mathlib.Core.Option.{none, some}
+use Rattle.std.specs.Prelude.{None, Some}
 use native.Mathlib.Omega.{arith}
 use native.Mathlib.Nat.{eq-or-lt_of_le}
 use native.Mathlib.Numerals.{add-one}
@@ -11,16 +11,13 @@ use lib.Dec.{T}
 use lib.ListN.{length}
 use lib.Ieee.{Float, le, lt}
 use Rattle.rows.specs.Lists.{or_default, first_from}
+use Rattle.geometry.proofs.Doubles.{split}
 use Rattle.geometry.specs.Double.{◌⊕◌, ◌⊖◌, ◌⊘◌, f0, f1, clamp}
 use Rattle.geometry.specs.Polyline.{Polyline, segment_length, length_to, location, reach, locate}
 use Rattle.polyline.proofs.Lists.{first_here, first_past, first_end}
 use Rattle.polyline.proofs.Lines.{reach_here, locate_past}
 use Rattle.centerline.specs.Line.{Passed, Located}
 use Rattle.centerline.proofs.Order.{le_trans}
-
-split : {A : Type 0} (b : Bool) → (b ≡ true → A) → (b ≡ false → A) → A
-split true f g = f refl
-split false f g = g refl
 
 both : (a b : Bool) → (a && b) ≡ true → (a ≡ true) × (b ≡ true)
 both true true h = (refl, refl)
@@ -29,9 +26,9 @@ both false b h = absurd (subst T (sym h) tt)
 
 module _ (xs : Polyline) where
   pub passed_none : (s : Float) → Passed xs s 0
-  passed_none s = record { short = λ j h. absurd (let z : ⊥ = omega arith in z) }
+  passed_none s = record { short = λ j h. absurd (omega arith) }
 
-  pub passed_next : (s : Float) (i : ℕ) → Passed xs s i → reach xs s i ≡ none → Passed xs s (i + 1)
+  pub passed_next : (s : Float) (i : ℕ) → Passed xs s i → reach xs s i ≡ None → Passed xs s (i + 1)
   passed_next s i p e = record { short = λ j h. ⊎_elim (λ (c : j ≡ i). rw c e) (λ (c : j < i). p.short j c) (eq-or-lt_of_le (omega arith)) }
 
   less : (s : Float) (i k : ℕ) → k ≤ i → Passed xs s i → Passed xs s k
@@ -40,11 +37,11 @@ module _ (xs : Polyline) where
   -- ---- a larger station
 
   -- a segment that falls short of a station falls short of a larger one
-  shorter : (a b : Float) (j : ℕ) → le a b ≡ true → reach xs a j ≡ none → reach xs b j ≡ none
+  shorter : (a b : Float) (j : ℕ) → le a b ≡ true → reach xs a j ≡ None → reach xs b j ≡ None
   unfolding reach
   shorter a b j h e =
       split (le b (length_to xs j ⊕ segment_length xs j) && lt f0 (segment_length xs j))
-      (λ t. let w : (le b (length_to xs j ⊕ segment_length xs j) ≡ true) × (lt f0 (segment_length xs j) ≡ true) = both _ _ t in let z : ◌≡◌ {A = ℕ} 0 1 = cc (rw (le_trans a b (length_to xs j ⊕ segment_length xs j) h w.0, w.1) at e) in absurd (let f : ⊥ = omega arith in f))
+      (λ t. let w : (le b (length_to xs j ⊕ segment_length xs j) ≡ true) × (lt f0 (segment_length xs j) ≡ true) = both _ _ t in let z : ◌≡◌ {A = ℕ} 0 1 = cc (rw (le_trans a b (length_to xs j ⊕ segment_length xs j) h w.0, w.1) at e) in absurd (omega arith))
       (λ t. rw t)
 
   pub passed_more : (a b : Float) (i : ℕ) → le a b ≡ true → Passed xs a i → Passed xs b i
@@ -91,5 +88,5 @@ module _ (xs : Polyline) where
           within = omega arith;
         }
 
-  pub located_start : (s : Float) → 0 < length xs → some (location 0 f0) ≡ locate xs s → Located xs s (location 0 f0)
+  pub located_start : (s : Float) → 0 < length xs → Some (location 0 f0) ≡ locate xs s → Located xs s (location 0 f0)
   located_start s h e = record { place = sym e; passed = passed_none s; within = h }

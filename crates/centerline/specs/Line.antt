@@ -1,8 +1,8 @@
 -- What the arrays stand for.
-use Rattle.std.specs.Prelude.{ℕ, ◌+◌, ◌*◌, ◌<◌, ◌≡◌, cond, List, eqb, length, get_or, take, replicate, Float}
-use Rattle.std.proofs.Math.Option.{Option, none, some}
+use Rattle.std.specs.Prelude.{ℕ, ◌+◌, ◌*◌, ◌<◌, ◌≡◌, List, [], ◌∷◌, ◌++◌, length, get_or, take, replicate, Float, Option, None, Some}
 use Rattle.std.specs.Float.{nan}
 use Rattle.rows.specs.Lists.{list_to}
+use Rattle.geometry.specs.declared.Point3.{Point3}
 use Rattle.geometry.specs.declared.Location.{Location}
 use Rattle.geometry.specs.Double.{f0, half}
 use Rattle.geometry.specs.Point.{lerp}
@@ -14,9 +14,15 @@ use Rattle.centerline.specs.declared.Stations.{Stations}
 unfoldable pub points_of : Line → Polyline
 points_of l = list_to (point_in l.coords) l.count
 
--- a line without points stands for none
-unfoldable pub line_option : Line → Option Polyline
-line_option l = cond (eqb l.count 0) none (some (points_of l))
+-- the points of a line that may be missing
+unfoldable pub line_option : Option Line → Option Polyline
+line_option None = None
+line_option (Some l) = Some (points_of l)
+
+-- one point more
+pub record Pushed (l : Line) (p : Point3) (m : Line) : Type 0 where
+  pub count : m.count ≡ l.count + 1
+  pub points : points_of m ≡ points_of l ++ (p ∷ [])
 
 -- no points, and every coordinate 0
 pub record Empty (l : Line) : Type 0 where
@@ -33,11 +39,11 @@ pub record Measured (xs : Polyline) (table : List Float) : Type 0 where
 
 -- no segment before i reaches the station
 pub record Passed (xs : Polyline) (s : Float) (i : ℕ) : Type 0 where
-  pub short : (j : ℕ) → j < i → reach xs s j ≡ none
+  pub short : (j : ℕ) → j < i → reach xs s j ≡ None
 
 -- where the station lies, and nothing before it
 pub record Located (xs : Polyline) (s : Float) (l : Location) : Type 0 where
-  pub place : locate xs s ≡ some l
+  pub place : locate xs s ≡ Some l
   pub passed : Passed xs s l.segment
   pub within : l.segment < length xs
 

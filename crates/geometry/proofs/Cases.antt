@@ -2,7 +2,7 @@
 use Prim.Native.Nat.{ℕ, ◌+◌, ◌^◌}
 use mathlib.Core.Path.{◌≡◌, refl}
 use mathlib.Core.Bool.{true}
-use mathlib.Core.Option.{some}
+use Rattle.std.specs.Prelude.{Some}
 use mathlib.Core.List.{[], ◌∷◌}
 use lib.Ieee.{nan, inf}
 use Rattle.refusal.specs.Answer.{Answer, refused, done}
@@ -22,7 +22,7 @@ side_l = p3 0 4 0 ∷ p3 10 4 0 ∷ []
 abbrev side_r : Polyline
 side_r = p3 0 0 0 ∷ p3 10 0 0 ∷ []
 
-mid : centerline side_l side_r ≡ some (p3 0 2 0 ∷ p3 10 2 0 ∷ [])
+mid : centerline side_l side_r ≡ Some (p3 0 2 0 ∷ p3 10 2 0 ∷ [])
 unfolding open_polyline
 mid = refl
 
@@ -30,7 +30,7 @@ len : polyline_length side_l ≡ whole 10
 unfolding open_polyline
 len = refl
 
-dir : direction_at side_l (whole 10) ≡ some (at2 f1 f0)
+dir : direction_at side_l (whole 10) ≡ Some (at2 f1 f0)
 unfolding open_polyline
 dir = refl
 

@@ -4,11 +4,11 @@ use mathlib.Core.Path.{◌≡◌, refl, sym, ap, ◌∙◌, subst}
 use mathlib.Core.Bool.{Bool, true, false, not}
 use native.Mathlib.Omega.{arith}
 use lib.Dec.{T, leb, eqb}
-use lib.Ieee.{Float, nan, inf, fin, binary64, div, neg, lt, ne, eq, fits, is_nan, nan_bits, of_bits, of_fields, odd, to_bits}
-use lib.Ieee.Bits.{of_bits-to_bits, nan_bits_is, nan_bits_above, is_true}
+use lib.Ieee.{Float, nan, inf, fin, binary64, lt, ne, eq, fits, is_nan, nan_bits, of_bits, of_fields, odd, to_bits}
+use lib.Ieee.Bits.{of_bits-to_bits, nan_bits_is, nan_bits_above}
 use lib.Ieee.Compare.{differs_from_itself}
 use borrow.Author.Tests.{lt-leb}
-use Rattle.geometry.specs.Double.{f0, f1, is_finite, absolute}
+use Rattle.geometry.specs.Double.{is_finite, absolute}
 
 -- by the value of a test
 pub split : {A : Type 0} (b : Bool) → (b ≡ true → A) → (b ≡ false → A) → A
@@ -17,40 +17,41 @@ split false f g = g refl
 
 -- ---- finite
 
--- the code's infinity
-infinity : div binary64 f1 f0 ≡ inf false
-unfolding div of_bits
+-- the code's infinities
+abbrev above_all : Float
+above_all = of_bits binary64 0x7FF0_0000_0000_0000
+
+abbrev below_all : Float
+below_all = of_bits binary64 0xFFF0_0000_0000_0000
+
+infinity : above_all ≡ inf false
+unfolding of_bits
 infinity = refl
 
--- between the infinities
-between : (x : Float) → T (fits binary64 x) → lt x (inf false) ≡ true → lt (neg (inf false)) x ≡ true → is_finite x ≡ true
-unfolding lt is_finite neg
-between nan h a b = a
-between (inf true) h a b = b
-between (inf false) h a b = a
-between (fin s m e) h a b = is_true (fits binary64 (fin s m e)) h
+minus_infinity : below_all ≡ inf true
+unfolding of_bits
+minus_infinity = refl
 
-not_below : (x : Float) → lt x (inf false) ≡ false → is_finite x ≡ false
+above : (x : Float) → fits binary64 x ≡ true → lt (inf true) x ≡ true → lt x (inf false) ≡ is_finite x
 unfolding lt is_finite
-not_below nan a = refl
-not_below (inf s) a = refl
-not_below (fin s m e) a = absurd (subst T a tt)
+above nan h a = refl
+above (inf true) h a = sym a
+above (inf false) h a = refl
+above (fin s m e) h a = sym h
 
-not_above : (x : Float) → lt (neg (inf false)) x ≡ false → is_finite x ≡ false
-unfolding lt is_finite neg
+not_above : (x : Float) → lt (inf true) x ≡ false → lt (inf true) x ≡ is_finite x
+unfolding lt is_finite
 not_above nan a = refl
-not_above (inf s) a = refl
+not_above (inf true) a = refl
+not_above (inf false) a = a
 not_above (fin s m e) a = absurd (subst T a tt)
 
 module _ (x : Float) where
-  pub finite_between : T (fits binary64 x) → lt x (div binary64 f1 f0) ≡ true → lt (neg (div binary64 f1 f0)) x ≡ true → true ≡ is_finite x
-  finite_between h a b = sym (between x h (rw infinity at a) (rw infinity at b))
+  pub finite_below : fits binary64 x ≡ true → lt below_all x ≡ true → lt x above_all ≡ is_finite x
+  finite_below h a = rw infinity (above x h (rw minus_infinity at a))
 
-  pub infinite_below : lt (neg (div binary64 f1 f0)) x ≡ false → false ≡ is_finite x
-  infinite_below a = sym (not_above x (rw infinity at a))
-
-  pub infinite_above : lt x (div binary64 f1 f0) ≡ false → false ≡ is_finite x
-  infinite_above a = sym (not_below x (rw infinity at a))
+  pub infinite_above : lt below_all x ≡ false → lt below_all x ≡ is_finite x
+  infinite_above a = rw minus_infinity (not_above x (rw minus_infinity at a))
 
 -- ---- the size
 
@@ -94,9 +95,9 @@ module _ (x : Float) where
   pub no_nan : ne x x ≡ false → T (not (is_nan x))
   no_nan h = rw (not_itself x h) tt
 
-  module _ (held : T (fits binary64 x)) where
+  module _ (held : fits binary64 x ≡ true) where
     pub no_nan_size : ne x x ≡ false → T (not (nan_bits binary64 (to_bits binary64 x % 2 ^ 63)))
-    no_nan_size h = rw (nan_size, nan_bits_is, of_bits-to_bits binary64 x held) (no_nan h)
+    no_nan_size h = rw (nan_size, nan_bits_is, of_bits-to_bits binary64 x (subst T (sym held) tt)) (no_nan h)
 
     pub size_of : of_bits binary64 (to_bits binary64 x % 2 ^ 63) ≡ absolute x
-    size_of = size_is (to_bits binary64 x) ∙ ap absolute (of_bits-to_bits binary64 x held)
+    size_of = size_is (to_bits binary64 x) ∙ ap absolute (of_bits-to_bits binary64 x (subst T (sym held) tt))

@@ -1,7 +1,6 @@
 -- The geometry calls: what each refuses, in order, and the inner function's answer otherwise. A polyline comes as a slice of coordinates.
-use Rattle.std.specs.Prelude.{ℕ, ◌%◌, max, Bool, not, ◌&&◌, List, [], ◌∷◌, eqb, ltb, length, Float}
-use Rattle.std.proofs.Math.Option.{Option}
-use Rattle.refusal.specs.Answer.{Answer, done, ◌>>=◌, ◌>>◌, refuse_when}
+use Rattle.std.specs.Prelude.{ℕ, ◌%◌, max, Bool, not, ◌&&◌, List, [], ◌∷◌, eqb, ltb, length, Float, Option}
+use Rattle.refusal.specs.Answer.{Answer, done, ◌>>◌, refuse_when}
 use Rattle.rows.specs.Lists.{every}
 use Rattle.geometry.specs.declared.Point2.{Point2}
 use Rattle.geometry.specs.declared.Point3.{Point3}
@@ -31,6 +30,20 @@ unfoldable pub check_line : List Float → Answer (Unit {0})
 check_line cs = do
   refuse_off_map (coords_on_map cs)
   refuse_many (length (polyline_of cs))
+
+-- of vectors of the plane or of space, by the test of one and by the inner function
+module _ {V A : Type 0} (on : V → Bool) where
+  abbrev pub one_call : (V → A) → V → Answer A
+  one_call f a = refuse_off_map (on a) >> done (f a)
+
+  abbrev pub pair_call : (V → V → A) → V → V → Answer A
+  pair_call f a b = refuse_off_map (on a && on b) >> done (f a b)
+
+  abbrev pub factor_call : (V → Float → A) → V → Float → Answer A
+  factor_call f a t = do
+    refuse_off_map (on a)
+    refuse_measure t
+    done (f a t)
 
 -- ---- polylines
 

@@ -1,6 +1,5 @@
 -- Points and vectors: geometry/mod.rs.
-use Rattle.std.specs.Prelude.{Bool, ◌&&◌, cond, Float}
-use Rattle.std.proofs.Math.Option.{Option, none, some}
+use Rattle.std.specs.Prelude.{◌≡◌, refl, Bool, ◌&&◌, cond, Float, Option, None, Some}
 use Rattle.std.specs.Float.Ieee.{lt, neg}
 use Rattle.root.specs.Root.{square_root}
 use Rattle.geometry.specs.declared.Point2.{Point2}
@@ -40,11 +39,15 @@ norm2 a = square_root (a.x ⊗ a.x ⊕ a.y ⊗ a.y)
 unfoldable pub distance2 : Point2 → Point2 → Float
 distance2 a b = norm2 (sub2 a b)
 
+pub distance2_is : (a b : Point2) → norm2 (sub2 a b) ≡ distance2 a b
+unfolding distance2
+distance2_is a b = refl
+
 -- the unit vector, where the norm is above 1e-9
 unfoldable pub normalized : Point2 → Option Point2
 normalized a =
     let n = norm2 a in
-    cond (lt epsilon n) (some (at2 (a.x ⊘ n) (a.y ⊘ n))) none
+    cond (lt epsilon n) (Some (at2 (a.x ⊘ n) (a.y ⊘ n))) None
 
 -- rotated by a quarter to the left
 unfoldable pub perp : Point2 → Point2
@@ -73,6 +76,10 @@ norm3 a = square_root (a.x ⊗ a.x ⊕ a.y ⊗ a.y ⊕ a.z ⊗ a.z)
 
 unfoldable pub distance3 : Point3 → Point3 → Float
 distance3 a b = norm3 (sub3 a b)
+
+pub distance3_is : (a b : Point3) → norm3 (sub3 a b) ≡ distance3 a b
+unfolding distance3
+distance3_is a b = refl
 
 -- between a (t = 0) and b (t = 1)
 unfoldable pub lerp : Point3 → Point3 → Float → Point3

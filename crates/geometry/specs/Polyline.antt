@@ -1,7 +1,6 @@
 -- Polylines: geometry/polyline.rs. A polyline is the list of its points.
 -- What a loop adds up over i is a function of i by recursion on i, so that a loop's invariant is `acc ≡ length_to xs i`. What a loop looks for is `first_from`.
-use Rattle.std.specs.Prelude.{ℕ, zero, suc, ◌+◌, ◌-◌, ◌*◌, ◌/◌, min, max, Bool, ◌&&◌, cond, List, [], ◌∷◌, reverse, ltb, length, get_or, Float}
-use Rattle.std.proofs.Math.Option.{Option, none, some}
+use Rattle.std.specs.Prelude.{ℕ, zero, suc, ◌+◌, ◌-◌, ◌*◌, ◌/◌, min, max, Bool, ◌&&◌, cond, List, [], ◌∷◌, reverse, ltb, length, get_or, Float, Option, None, Some}
 use Rattle.std.specs.Float.{nan}
 use Rattle.std.specs.Float.Ieee.{lt, le}
 use Rattle.rows.specs.Lists.{or_else, or_default, list_to, first_from, first_below, open_lists}
@@ -62,15 +61,15 @@ unfoldable pub reach : Polyline → Float → ℕ → Option Location
 reach xs s i =
     let acc = length_to xs i in
     let seg = segment_length xs i in
-    cond (le s (acc ⊕ seg) && lt f0 seg) (some (location i (clamp ((s ⊖ acc) ⊘ seg) f0 f1))) none
+    cond (le s (acc ⊕ seg) && lt f0 seg) (Some (location i (clamp ((s ⊖ acc) ⊘ seg) f0 f1))) None
 
 -- No points, none; one point or a station of at most 0, the start; else the first segment that reaches the station; else the end of the last.
 unfoldable pub locate : Polyline → Float → Option Location
-locate [] s = none
-locate (p ∷ []) s = some (location 0 f0)
+locate [] s = None
+locate (p ∷ []) s = Some (location 0 f0)
 locate (p ∷ q ∷ r) s =
     let n = length r in
-    cond (le s f0) (some (location 0 f0)) (some (or_default (first_from (reach (p ∷ q ∷ r) s) (suc n) 0) (location n f1)))
+    cond (le s f0) (Some (location 0 f0)) (Some (or_default (first_from (reach (p ∷ q ∷ r) s) (suc n) 0) (location n f1)))
 
 unfoldable pub point_of : Polyline → Location → Point3
 point_of xs l =
@@ -78,7 +77,7 @@ point_of xs l =
     cond (ltb (suc i) (length xs)) (lerp (pt xs i) (pt xs (suc i)) l.fraction) (pt xs (length xs - 1))
 
 unfoldable pub point_at : Polyline → Float → Option Point3
-point_at xs s = elim (locate xs s) [ none ↦ none | some l ↦ some (point_of xs l) ]
+point_at xs s = elim (locate xs s) [ None ↦ None | Some l ↦ Some (point_of xs l) ]
 
 unfoldable pub point_at_fraction : Polyline → Float → Option Point3
 point_at_fraction xs t = point_at xs (clamp t f0 f1 ⊗ polyline_length xs)
@@ -97,14 +96,14 @@ direction_from xs i =
     or_else (first_from (segment_direction xs) (last - start) start) (first_below (segment_direction xs) start)
 
 unfoldable pub direction_at : Polyline → Float → Option Point2
-direction_at xs s = cond (ltb (length xs) 2) none (elim (locate xs s) [ none ↦ none | some l ↦ direction_from xs l.segment ])
+direction_at xs s = cond (ltb (length xs) 2) None (elim (locate xs s) [ None ↦ None | Some l ↦ direction_from xs l.segment ])
 
 -- ---- the nearest point
 
 -- how far to the left of a direction p lies, seen from q
 unfoldable pub lateral_of : Option Point2 → Point2 → Point2 → Float
-lateral_of none p q = f0
-lateral_of (some u) p q = cross u (sub2 p q)
+lateral_of None p q = f0
+lateral_of (Some u) p q = cross u (sub2 p q)
 
 -- the point of segment i that is nearest to p
 unfoldable pub nearest_on : Polyline → Point2 → ℕ → NearestPoint
@@ -123,17 +122,17 @@ nearest_on xs p i =
 
 -- a later segment is taken only where it is nearer by more than 1e-9
 unfoldable pub nearer : Option NearestPoint → NearestPoint → NearestPoint
-nearer none c = c
-nearer (some best) c = cond (lt c.distance (best.distance ⊖ epsilon)) c best
+nearer None c = c
+nearer (Some best) c = cond (lt c.distance (best.distance ⊖ epsilon)) c best
 
 -- the best of the first i segments
 unfoldable pub nearest_to : Polyline → Point2 → ℕ → Option NearestPoint
-nearest_to xs p zero = none
-nearest_to xs p (suc i) = some (nearer (nearest_to xs p i) (nearest_on xs p i))
+nearest_to xs p zero = None
+nearest_to xs p (suc i) = Some (nearer (nearest_to xs p i) (nearest_on xs p i))
 
 unfoldable pub nearest_point : Polyline → Point2 → Option NearestPoint
-nearest_point [] p = none
-nearest_point (q ∷ []) p = some (record { point = q; distance = distance2 (xy q) p; station = f0; segment = 0; lateral = f0 })
+nearest_point [] p = None
+nearest_point (q ∷ []) p = Some (record { point = q; distance = distance2 (xy q) p; station = f0; segment = 0; lateral = f0 })
 nearest_point (q ∷ r ∷ s) p = nearest_to (q ∷ r ∷ s) p (suc (length s))
 
 -- ---- resampling, and the centreline
@@ -152,11 +151,11 @@ middle l r n i = lerp (resampled l n i) (resampled r n i) half
 
 -- both sides resampled to the larger count, and averaged point by point
 unfoldable pub centerline : Polyline → Polyline → Option Polyline
-centerline [] r = none
-centerline (p ∷ l) [] = none
+centerline [] r = None
+centerline (p ∷ l) [] = None
 centerline (p ∷ l) (q ∷ r) =
     let n = max 2 (max (suc (length l)) (suc (length r))) in
-    some (list_to (middle (p ∷ l) (q ∷ r) n) n)
+    Some (list_to (middle (p ∷ l) (q ∷ r) n) n)
 
 unfoldable pub open_polyline : Unit {0}
 unfolding open_point open_lists point_in polyline_of segment_length length_to polyline_length is_valid stations reversed reach locate point_of point_at point_at_fraction segment_direction direction_from direction_at lateral_of nearest_on nearer nearest_to nearest_point resampled resample_count middle centerline

@@ -9,19 +9,15 @@ pub const EPSILON: f64 = 1e-9;
 pub const FARTHEST: f64 = 67108864.0;
 
 // No NaN and no infinity.
+#[tactic(auto, using(crate::proofs::Doubles::finite_below, crate::proofs::Doubles::infinite_above))]
 pub fn is_finite(x: f64) -> bool
     ensures { result ≡ is_finite x }
 {
-    let infinity = 1.0 / 0.0;
-    if x < infinity {
-        if -infinity < x {
-            return true;
-        }
-    }
-    false
+    f64::NEG_INFINITY < x && x < f64::INFINITY
 }
 
 // By the pattern: -0 has the size 0, which no comparison tells.
+#[tactic(auto, using(crate::proofs::Doubles::nan_size_is, crate::proofs::Doubles::no_nan, crate::proofs::Doubles::no_nan_size, crate::proofs::Doubles::size_of))]
 pub fn abs(x: f64) -> f64
     ensures { result ≡ absolute x }
 {
@@ -32,6 +28,7 @@ pub fn abs(x: f64) -> f64
 }
 
 // Rust's clamp: a NaN and a zero's sign stay.
+#[tactic(auto, unfolding(crate::specs::Double::clamp))]
 pub fn clamp(x: f64, low: f64, high: f64) -> f64
     ensures { result ≡ clamp x low high }
 {
@@ -40,11 +37,9 @@ pub fn clamp(x: f64, low: f64, high: f64) -> f64
 }
 
 // Finite, and at most 2 ^ 26 in size.
+#[tactic(auto, unfolding(crate::specs::Double::on_map))]
 pub fn on_map(x: f64) -> bool
     ensures { result ≡ on_map x }
 {
-    if is_finite(x) {
-        return abs(x) <= FARTHEST;
-    }
-    false
+    is_finite(x) && abs(x) <= FARTHEST
 }

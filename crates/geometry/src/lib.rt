@@ -5,9 +5,11 @@
 #![tactic(auto)]
 
 pub mod double; // double.rt: tests on one number, and its clamp
-pub mod point; // point.rt: points and vectors
+pub mod vector; // vector.rt: what points of the plane and of space have in common
+pub mod point; // point.rt: points and vectors of the plane, and of space
 
-// A point of the plane, or a vector.
+// A point of the plane, or a vector. It and a point of space differ in what they can do, and not in a number alone: so no
+// array of a const length, whose coordinates would have no names.
 #[derive(Clone, Copy)]
 pub struct Point2 {
     pub x: f64,
@@ -22,30 +24,11 @@ pub struct Point3 {
     pub z: f64,
 }
 
-// What may be missing, each of its own type.
-#[derive(Drop)]
-pub enum MaybePoint2 {
-    At(Point2),
-    Nothing,
-}
-
-#[derive(Drop)]
-pub enum MaybePoint3 {
-    At(Point3),
-    Nothing,
-}
-
 // Where on a polyline: the segment and how far along it, from 0 to 1.
 #[derive(Clone, Copy)]
 pub struct Location {
     pub segment: u64,
     pub fraction: f64,
-}
-
-#[derive(Drop)]
-pub enum MaybeLocation {
-    At(Location),
-    Nothing,
 }
 
 // The point of a polyline that is nearest to a point of the plane.
@@ -59,10 +42,4 @@ pub struct NearestPoint {
     pub segment: u64,
     // how far to the left of the segment the query lies
     pub lateral: f64,
-}
-
-#[derive(Drop)]
-pub enum MaybeNearest {
-    At(NearestPoint),
-    Nothing,
 }

@@ -1,10 +1,10 @@
-// Points and vectors, in the plane and in space.
+// Points and vectors: what is of the plane alone, or of space alone.
 ghost use Rattle.std.specs.Prelude.{◌≡◌};
-ghost use Rattle.geometry.specs.Point.{xy, sub2, scale2, dot, cross, norm2, distance2, normalized, perp, project_on_segment, add3, sub3, scale3, norm3, distance3, lerp, finite_point, point_on_map, point2_on_map};
-ghost use Rattle.geometry.specs.Maybe.{maybe_point2};
+ghost use Rattle.geometry.specs.Point.{xy, dot, cross, normalized, perp, project_on_segment, add3, lerp, finite_point};
 
 use crate::double::EPSILON;
-use crate::{MaybePoint2, Point2, Point3, double};
+use crate::vector::Vector;
+use crate::{Point2, Point3, double};
 
 // The point's place in the plane.
 pub fn flat(p: Point3) -> Point2
@@ -15,24 +15,7 @@ pub fn flat(p: Point3) -> Point2
 
 // ---- in the plane
 
-pub fn sub2(a: Point2, b: Point2) -> Point2
-    ensures { result ≡ sub2 a b }
-{
-    Point2 {
-        x: a.x - b.x,
-        y: a.y - b.y,
-    }
-}
-
-pub fn scale2(a: Point2, t: f64) -> Point2
-    ensures { result ≡ scale2 a t }
-{
-    Point2 {
-        x: a.x * t,
-        y: a.y * t,
-    }
-}
-
+#[tactic(auto, unfolding(crate::specs::Point::dot))]
 pub fn dot(a: Point2, b: Point2) -> f64
     ensures { result ≡ dot a b }
 {
@@ -40,60 +23,53 @@ pub fn dot(a: Point2, b: Point2) -> f64
 }
 
 // The third coordinate of the product in space.
+#[tactic(auto, unfolding(crate::specs::Point::cross))]
 pub fn cross(a: Point2, b: Point2) -> f64
     ensures { result ≡ cross a b }
 {
     a.x * b.y - a.y * b.x
 }
 
-pub fn norm2(a: Point2) -> f64
-    ensures { result ≡ norm2 a }
-{
-    root::square_root(a.x * a.x + a.y * a.y)
-}
-
-pub fn distance2(a: Point2, b: Point2) -> f64
-    ensures { result ≡ distance2 a b }
-{
-    norm2(sub2(a, b))
-}
-
 // The unit vector, where the norm is above 1e-9.
-pub fn normalized(a: Point2) -> MaybePoint2
-    ensures { maybe_point2 result ≡ normalized a }
+#[tactic(auto, unfolding(crate::specs::Point::normalized))]
+pub fn normalized(a: Point2) -> Option<Point2>
+    ensures { result ≡ normalized a }
 {
-    let n = norm2(a);
+    let n = a.norm();
     if n > EPSILON {
-        MaybePoint2::At(Point2 {
+        Some(Point2 {
             x: a.x / n,
             y: a.y / n,
         })
     } else {
-        MaybePoint2::Nothing
+        None
     }
 }
 
 // Rotated by a quarter to the left.
+#[tactic(auto, unfolding(crate::specs::Point::perp))]
 pub fn perp(a: Point2) -> Point2
     ensures { result ≡ perp a }
 {
     Point2 { x: -a.y, y: a.x }
 }
 
-// How far along a to b the point nearest to p is, from 0 to 1.
+// How far along a to b the point nearest to p is, from 0 to 1. Along a point it is 0.
+#[tactic(auto, unfolding(crate::specs::Point::project_on_segment))]
 pub fn project_on_segment(p: Point2, a: Point2, b: Point2) -> f64
     ensures { result ≡ project_on_segment p a b }
 {
-    let ab = sub2(b, a);
+    let ab = b.sub(a);
     let squared = dot(ab, ab);
     if squared < EPSILON * EPSILON {
         return 0.0;
     }
-    double::clamp(dot(sub2(p, a), ab) / squared, 0.0, 1.0)
+    double::clamp(dot(p.sub(a), ab) / squared, 0.0, 1.0)
 }
 
 // ---- in space
 
+#[tactic(auto, unfolding(crate::specs::Point::add3))]
 pub fn add3(a: Point3, b: Point3) -> Point3
     ensures { result ≡ add3 a b }
 {
@@ -104,75 +80,17 @@ pub fn add3(a: Point3, b: Point3) -> Point3
     }
 }
 
-pub fn sub3(a: Point3, b: Point3) -> Point3
-    ensures { result ≡ sub3 a b }
-{
-    Point3 {
-        x: a.x - b.x,
-        y: a.y - b.y,
-        z: a.z - b.z,
-    }
-}
-
-pub fn scale3(a: Point3, t: f64) -> Point3
-    ensures { result ≡ scale3 a t }
-{
-    Point3 {
-        x: a.x * t,
-        y: a.y * t,
-        z: a.z * t,
-    }
-}
-
-pub fn norm3(a: Point3) -> f64
-    ensures { result ≡ norm3 a }
-{
-    root::square_root(a.x * a.x + a.y * a.y + a.z * a.z)
-}
-
-pub fn distance3(a: Point3, b: Point3) -> f64
-    ensures { result ≡ distance3 a b }
-{
-    norm3(sub3(a, b))
-}
-
 // Between a (t = 0) and b (t = 1).
+#[tactic(auto, unfolding(crate::specs::Point::lerp))]
 pub fn lerp(a: Point3, b: Point3, t: f64) -> Point3
     ensures { result ≡ lerp a b t }
 {
-    add3(a, scale3(sub3(b, a), t))
+    add3(a, b.sub(a).scale(t))
 }
 
-// ---- tests
-
+#[tactic(auto, unfolding(crate::specs::Point::finite_point))]
 pub fn is_finite(p: Point3) -> bool
     ensures { result ≡ finite_point p }
 {
-    if double::is_finite(p.x) {
-        if double::is_finite(p.y) {
-            return double::is_finite(p.z);
-        }
-    }
-    false
-}
-
-// Each coordinate is finite and at most 2 ^ 26 in size.
-pub fn on_map(p: Point3) -> bool
-    ensures { result ≡ point_on_map p }
-{
-    if double::on_map(p.x) {
-        if double::on_map(p.y) {
-            return double::on_map(p.z);
-        }
-    }
-    false
-}
-
-pub fn on_map2(p: Point2) -> bool
-    ensures { result ≡ point2_on_map p }
-{
-    if double::on_map(p.x) {
-        return double::on_map(p.y);
-    }
-    false
+    double::is_finite(p.x) && double::is_finite(p.y) && double::is_finite(p.z)
 }

@@ -1,5 +1,5 @@
 -- Answers: a refusal stands, and what comes after a test that passed. Every coordinate on the map, one after the other.
-use Prim.Native.Nat.{ℕ, ◌+◌, ◌/◌, ◌%◌, ◌≤◌, ◌<◌}
+use Prim.Native.Nat.{ℕ, ◌+◌, ◌/◌, ◌%◌, ◌≤◌, ◌<◌, max}
 use mathlib.Core.Path.{◌≡◌, refl, sym, ap, ◌∙◌}
 use mathlib.Core.Bool.{Bool, true, false}
 use mathlib.Core.List.{List, []}
@@ -10,16 +10,15 @@ use lib.ListN.{length, get_or, drop, drop_of_length-le}
 use lib.Seq.{drop-cons}
 use lib.Ieee.{Float, nan}
 use borrow.Author.Tests.{eq-eqb, ne_eqb, ltb-false}
-use Rattle.refusal.specs.Answer.{Answer, refused, done, refused_as, ◌>>◌}
+use Rattle.std.specs.Prelude.{Result, Ok, Err}
+use Rattle.geometry.proofs.Doubles.{split}
+use Rattle.refusal.specs.Answer.{Answer, refused, done, refused_as, answered, ◌>>◌}
 use Rattle.refusal.specs.declared.Refusal.{Refusal}
 use Rattle.rows.specs.Lists.{every}
 use Rattle.geometry.specs.Double.{on_map}
 use Rattle.geometry.specs.Polyline.{polyline_of}
 use Rattle.geometry.specs.Calls.{coords_on_map, refuse_off_map, refuse_many, refuse_measure, check_line}
 use Rattle.polyline.proofs.Lines.{length-points}
-use Rattle.geometry_calls.specs.declared.Tested.{Tested}
-use Rattle.geometry_calls.specs.declared.Tested.TheVariants.{Passed, Refused}
-use Rattle.geometry_calls.specs.Answers.{tested}
 use Rattle.geometry_calls.specs.Tests.{check_count, check_line_at}
 
 -- ---- coordinates
@@ -54,57 +53,39 @@ module _ (cs : List Float) where
 -- ---- answers
 
 module _ {A : Type 0} where
-  module _ (a : Answer (Unit {0})) (x : Answer A) where
-    pub stands : (r : Refusal) → refused_as r ≡ a → refused_as r ≡ (a >> x)
-    stands r e = rw (← e)
-
-    pub passes : (y : Answer A) → done tt ≡ a → y ≡ x → y ≡ (a >> x)
-    passes y e f = rw (← e) f
-
   pub joined : (a b : Answer (Unit {0})) (x : Answer A) → ((a >> b) >> x) ≡ (a >> (b >> x))
   joined (refused n ds) b x = refl
   joined (done u) b x = refl
 
-  -- what follows a test of the code, or two
-  module _ (t : Tested) (a : Answer (Unit {0})) (x : Answer A) where
-    pub test_stands : (r : Refusal) → tested t ≡ a → t ≡ Refused r → refused_as r ≡ (a >> x)
-    test_stands r h e = stands a x r (sym (ap tested e) ∙ h)
+  -- what follows a test of the code
+  module _ (t : Result (Unit {0}) Refusal) (a : Answer (Unit {0})) (x : Answer A) where
+    pub stands : (r : Refusal) → answered t ≡ a → t ≡ Err r → refused_as r ≡ (a >> x)
+    stands r h e = rw (← h, e)
 
-    pub test_passes : (y : Answer A) → tested t ≡ a → t ≡ Passed → y ≡ x → y ≡ (a >> x)
-    test_passes y h e f = passes a x y (sym (ap tested e) ∙ h) f
+    pub passes : (y : Answer A) → answered t ≡ a → t ≡ Ok tt → y ≡ x → y ≡ (a >> x)
+    passes y h e f = rw (← h, e) f
 
-  module _ (s t : Tested) (a b : Answer (Unit {0})) (x : Answer A) where
-    pub both_stand : (r : Refusal) → tested s ≡ a → tested t ≡ (tested s >> b) → t ≡ Refused r → refused_as r ≡ (a >> (b >> x))
-    both_stand r g h e = test_stands t (a >> b) x r (rw g at h) e ∙ joined a b x
-
-    pub both_pass : (y : Answer A) → tested s ≡ a → tested t ≡ (tested s >> b) → t ≡ Passed → y ≡ x → y ≡ (a >> (b >> x))
-    both_pass y g h e f = test_passes t (a >> b) x y (rw g at h) e f ∙ joined a b x
-
-  -- after two tests
-  module _ (x : Answer A) where
-    module _ (cs : List Float) (s : Float) where
-      pub line_at_stands : (r : Refusal) → refused_as r ≡ check_line_at cs s → refused_as r ≡ (check_line cs >> (refuse_measure s >> x))
+  module _ (t : Result (Unit {0}) Refusal) (x : Answer A) where
+    -- after two tests, of which the code makes one
+    module _ (cs : List Float) (s : Float) (h : answered t ≡ check_line_at cs s) where
+      pub line_at_stands : (r : Refusal) → t ≡ Err r → refused_as r ≡ (check_line cs >> (refuse_measure s >> x))
       unfolding check_line_at
-      line_at_stands r e = stands (check_line cs >> refuse_measure s) x r e ∙ joined (check_line cs) (refuse_measure s) x
+      line_at_stands r e = stands t (check_line cs >> refuse_measure s) x r h e ∙ joined (check_line cs) (refuse_measure s) x
 
-      pub line_at_passes : (y : Answer A) → done tt ≡ check_line_at cs s → y ≡ x → y ≡ (check_line cs >> (refuse_measure s >> x))
+      pub line_at_passes : (y : Answer A) → t ≡ Ok tt → y ≡ x → y ≡ (check_line cs >> (refuse_measure s >> x))
       unfolding check_line_at
-      line_at_passes y e f = passes (check_line cs >> refuse_measure s) x y e f ∙ joined (check_line cs) (refuse_measure s) x
+      line_at_passes y e f = passes t (check_line cs >> refuse_measure s) x y h e f ∙ joined (check_line cs) (refuse_measure s) x
 
-    module _ (ok : Bool) (n : ℕ) where
-      pub count_stands : (r : Refusal) → refused_as r ≡ check_count ok n → refused_as r ≡ (refuse_off_map ok >> (refuse_many n >> x))
+    module _ (ok : Bool) (n : ℕ) (h : answered t ≡ check_count ok n) where
+      pub count_stands : (r : Refusal) → t ≡ Err r → refused_as r ≡ (refuse_off_map ok >> (refuse_many n >> x))
       unfolding check_count
-      count_stands r e = stands (refuse_off_map ok >> refuse_many n) x r e ∙ joined (refuse_off_map ok) (refuse_many n) x
+      count_stands r e = stands t (refuse_off_map ok >> refuse_many n) x r h e ∙ joined (refuse_off_map ok) (refuse_many n) x
 
-      pub count_passes : (y : Answer A) → done tt ≡ check_count ok n → y ≡ x → y ≡ (refuse_off_map ok >> (refuse_many n >> x))
+      pub count_passes : (y : Answer A) → t ≡ Ok tt → y ≡ x → y ≡ (refuse_off_map ok >> (refuse_many n >> x))
       unfolding check_count
-      count_passes y e f = passes (refuse_off_map ok >> refuse_many n) x y e f ∙ joined (refuse_off_map ok) (refuse_many n) x
+      count_passes y e f = passes t (refuse_off_map ok >> refuse_many n) x y h e f ∙ joined (refuse_off_map ok) (refuse_many n) x
 
 -- ---- counts
-
-split : {A : Type 0} (b : Bool) → (b ≡ true → A) → (b ≡ false → A) → A
-split true f g = f refl
-split false f g = g refl
 
 never : (n : ℕ) (ds : List ℕ) → ◌≡◌ {A = Answer (Unit {0})} (done tt) (refused n ds) → ⊥
 never n ds e = let z : ◌≡◌ {A = ℕ} 0 1 = cc in omega arith
@@ -117,18 +98,24 @@ second : (a b : Answer (Unit {0})) → done tt ≡ (a >> b) → done tt ≡ b
 second (refused n ds) b e = absurd (never n ds e)
 second (done tt) b e = e
 
-pub count_few : (ok : Bool) (n : ℕ) → done tt ≡ check_count ok n → n ≤ 64
-unfolding check_count
-count_few ok n e = many_few n (second (refuse_off_map ok) (refuse_many n) e)
-
-pub line_few : (cs : List Float) → done tt ≡ check_line cs → length cs / 3 ≤ 64
-unfolding check_line
-line_few cs e = omega (arith, length-points cs, many_few (length (polyline_of cs)) (second (refuse_off_map (coords_on_map cs)) (refuse_many (length (polyline_of cs))) e))
-
 pub line_is : (cs : List Float) → check_count (coords_on_map cs) (length cs / 3) ≡ check_line cs
 unfolding check_count check_line
 line_is cs = rw (length-points cs)
 
-pub ruleset calls = (test_stands, test_passes)
+module _ (t : Result (Unit {0}) Refusal) (e : t ≡ Ok tt) where
+  pub count_few : (ok : Bool) (n : ℕ) → answered t ≡ check_count ok n → n ≤ 64
+  unfolding check_count
+  count_few ok n h = many_few n (second (refuse_off_map ok) (refuse_many n) (sym (ap answered e) ∙ h))
 
-pub ruleset measured_calls = (both_stand, both_pass)
+  pub line_few : (cs : List Float) → answered t ≡ check_line cs → length cs / 3 ≤ 64
+  line_few cs h = count_few (coords_on_map cs) (length cs / 3) (h ∙ sym (line_is cs))
+
+  pub asked_few : (ok : Bool) (cs : List Float) (n : ℕ) → answered t ≡ check_count ok (max n (length (polyline_of cs))) → (length cs / 3 ≤ 64) × (n ≤ 64)
+  asked_few ok cs n h = let m = count_few ok (max n (length (polyline_of cs))) h in let l = length-points cs in (omega arith, omega arith)
+
+  pub lines_few : (ok : Bool) (a b : List Float) → answered t ≡ check_count ok (max (length (polyline_of a)) (length (polyline_of b))) → (length a / 3 ≤ 64) × (length b / 3 ≤ 64)
+  lines_few ok a b h =
+      let m = count_few ok (max (length (polyline_of a)) (length (polyline_of b))) h in
+      let k = length-points a in
+      let l = length-points b in
+      (omega arith, omega arith)

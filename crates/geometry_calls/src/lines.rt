@@ -1,76 +1,65 @@
 // Calls on a polyline.
 ghost use Rattle.std.specs.Prelude.{◌≡◌};
+ghost use Rattle.refusal.specs.Answer.{answered};
 ghost use Rattle.geometry.specs.Calls.{length_call, is_valid_call, locate_call, point_at_call, point_at_fraction_call, direction_at_call, nearest_point_call};
-ghost use Rattle.geometry_calls.specs.Answers.{number_answer, truth_answer, location_answer, place_answer, direction_answer, nearest_answer};
 
-use crate::{
-    DirectionAnswer, LocationAnswer, NearestAnswer, NumberAnswer, PlaceAnswer, Tested, TruthAnswer,
-    tests,
-};
-use geometry::Point2;
-use geometry::point::on_map2;
+use crate::tests;
+use geometry::{Location, NearestPoint, Point2, Point3};
+use refusal::Refusal;
 
 // The length of fewer than two points is +0; the Rust's is -0, and the sign is not compared.
-pub fn length(cs: &[f64]) -> NumberAnswer
-    ensures { number_answer result ≡ length_call cs.now }
+#[tactic(auto, using(crate::proofs::Laws::passes, crate::proofs::Laws::stands), unfolding(geometry::specs::Calls::length_call))]
+pub fn length(cs: &[f64]) -> Result<f64, Refusal>
+    ensures { answered result ≡ length_call cs.now }
 {
-    match tests::line(cs) {
-        Tested::Refused(r) => NumberAnswer::Refused(r),
-        Tested::Passed => NumberAnswer::Number(polyline::length::length(cs)),
-    }
+    tests::line(cs)?;
+    Ok(polyline::length::length(cs))
 }
 
-pub fn is_valid(cs: &[f64]) -> TruthAnswer
-    ensures { truth_answer result ≡ is_valid_call cs.now }
+#[tactic(auto, using(crate::proofs::Laws::passes, crate::proofs::Laws::stands), unfolding(geometry::specs::Calls::is_valid_call))]
+pub fn is_valid(cs: &[f64]) -> Result<bool, Refusal>
+    ensures { answered result ≡ is_valid_call cs.now }
 {
-    match tests::line(cs) {
-        Tested::Refused(r) => TruthAnswer::Refused(r),
-        Tested::Passed => TruthAnswer::Truth(polyline::length::is_valid(cs)),
-    }
+    tests::line(cs)?;
+    Ok(polyline::length::is_valid(cs))
 }
 
-pub fn locate(cs: &[f64], s: f64) -> LocationAnswer
-    ensures { location_answer result ≡ locate_call cs.now s }
+#[tactic(auto, using(crate::proofs::Laws::line_at_passes, crate::proofs::Laws::line_at_stands), unfolding(geometry::specs::Calls::locate_call))]
+pub fn locate(cs: &[f64], s: f64) -> Result<Option<Location>, Refusal>
+    ensures { answered result ≡ locate_call cs.now s }
 {
-    match tests::line_at(cs, s) {
-        Tested::Refused(r) => LocationAnswer::Refused(r),
-        Tested::Passed => LocationAnswer::Found(polyline::locate::locate(cs, s)),
-    }
+    tests::line_at(cs, s)?;
+    Ok(polyline::locate::locate(cs, s))
 }
 
-pub fn point_at(cs: &[f64], s: f64) -> PlaceAnswer
-    ensures { place_answer result ≡ point_at_call cs.now s }
+#[tactic(auto, using(crate::proofs::Laws::line_at_passes, crate::proofs::Laws::line_at_stands), unfolding(geometry::specs::Calls::point_at_call))]
+pub fn point_at(cs: &[f64], s: f64) -> Result<Option<Point3>, Refusal>
+    ensures { answered result ≡ point_at_call cs.now s }
 {
-    match tests::line_at(cs, s) {
-        Tested::Refused(r) => PlaceAnswer::Refused(r),
-        Tested::Passed => PlaceAnswer::Found(polyline::locate::point_at(cs, s)),
-    }
+    tests::line_at(cs, s)?;
+    Ok(polyline::locate::point_at(cs, s))
 }
 
-pub fn point_at_fraction(cs: &[f64], t: f64) -> PlaceAnswer
-    ensures { place_answer result ≡ point_at_fraction_call cs.now t }
+#[tactic(auto, using(crate::proofs::Laws::line_at_passes, crate::proofs::Laws::line_at_stands), unfolding(geometry::specs::Calls::point_at_fraction_call))]
+pub fn point_at_fraction(cs: &[f64], t: f64) -> Result<Option<Point3>, Refusal>
+    ensures { answered result ≡ point_at_fraction_call cs.now t }
 {
-    match tests::line_at(cs, t) {
-        Tested::Refused(r) => PlaceAnswer::Refused(r),
-        Tested::Passed => PlaceAnswer::Found(polyline::locate::point_at_fraction(cs, t)),
-    }
+    tests::line_at(cs, t)?;
+    Ok(polyline::locate::point_at_fraction(cs, t))
 }
 
-pub fn direction_at(cs: &[f64], s: f64) -> DirectionAnswer
-    ensures { direction_answer result ≡ direction_at_call cs.now s }
+#[tactic(auto, using(crate::proofs::Laws::line_at_passes, crate::proofs::Laws::line_at_stands), unfolding(geometry::specs::Calls::direction_at_call))]
+pub fn direction_at(cs: &[f64], s: f64) -> Result<Option<Point2>, Refusal>
+    ensures { answered result ≡ direction_at_call cs.now s }
 {
-    match tests::line_at(cs, s) {
-        Tested::Refused(r) => DirectionAnswer::Refused(r),
-        Tested::Passed => DirectionAnswer::Found(polyline::direction::direction_at(cs, s)),
-    }
+    tests::line_at(cs, s)?;
+    Ok(polyline::direction::direction_at(cs, s))
 }
 
-pub fn nearest_point(cs: &[f64], p: Point2) -> NearestAnswer
-    ensures { nearest_answer result ≡ nearest_point_call cs.now p }
+#[tactic(auto, using(crate::proofs::Laws::count_passes, crate::proofs::Laws::count_stands), unfolding(geometry::specs::Calls::nearest_point_call))]
+pub fn nearest_point(cs: &[f64], p: Point2) -> Result<Option<NearestPoint>, Refusal>
+    ensures { answered result ≡ nearest_point_call cs.now p }
 {
-    let ok = tests::both(tests::coords_on_map(cs), on_map2(p));
-    match tests::count(ok, cs.len() / 3) {
-        Tested::Refused(r) => NearestAnswer::Refused(r),
-        Tested::Passed => NearestAnswer::Found(polyline::nearest::nearest_point(cs, p)),
-    }
+    tests::line_and_point(cs, p)?;
+    Ok(polyline::nearest::nearest_point(cs, p))
 }

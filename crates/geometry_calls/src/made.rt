@@ -1,71 +1,41 @@
 // Calls that make a polyline, or its stations.
 ghost use Rattle.std.specs.Prelude.{◌≡◌};
+ghost use Rattle.refusal.specs.Answer.{answered_as};
 ghost use Rattle.geometry.specs.Calls.{stations_call, reversed_call, resample_count_call, centerline_call};
-ghost use Rattle.geometry_calls.specs.Answers.{line_answer, centerline_answer, stations_answer};
+ghost use Rattle.centerline.specs.Line.{points_of, line_option, stations_of};
 
-use crate::{LineAnswer, StationsAnswer, Tested, tests};
-use centerline::Stations;
+use crate::tests;
+use centerline::{Line, Stations};
+use refusal::Refusal;
 
-pub fn stations(cs: &[f64]) -> StationsAnswer
-    ensures { stations_answer result ≡ stations_call cs.now }
+#[tactic(auto, using(crate::proofs::Laws::passes, crate::proofs::Laws::stands, crate::proofs::Laws::line_few), unfolding(geometry::specs::Calls::stations_call))]
+pub fn stations(cs: &[f64]) -> Result<Stations, Refusal>
+    ensures { answered_as stations_of result ≡ stations_call cs.now }
 {
-    match tests::line(cs) {
-        Tested::Refused(r) => StationsAnswer {
-            tested: Tested::Refused(r),
-            stations: Stations {
-                values: [0.0; 64],
-                count: 0,
-            },
-        },
-        Tested::Passed => StationsAnswer {
-            tested: Tested::Passed,
-            stations: centerline::measure::stations(cs),
-        },
-    }
+    tests::line(cs)?;
+    Ok(centerline::measure::stations(cs))
 }
 
-pub fn reversed(cs: &[f64]) -> LineAnswer
-    ensures { line_answer result ≡ reversed_call cs.now }
+#[tactic(auto, using(crate::proofs::Laws::passes, crate::proofs::Laws::stands, crate::proofs::Laws::line_few), unfolding(geometry::specs::Calls::reversed_call))]
+pub fn reversed(cs: &[f64]) -> Result<Line, Refusal>
+    ensures { answered_as points_of result ≡ reversed_call cs.now }
 {
-    match tests::line(cs) {
-        Tested::Refused(r) => LineAnswer {
-            tested: Tested::Refused(r),
-            line: centerline::empty(),
-        },
-        Tested::Passed => LineAnswer {
-            tested: Tested::Passed,
-            line: centerline::reversed::reversed(cs),
-        },
-    }
+    tests::line(cs)?;
+    Ok(centerline::reversed::reversed(cs))
 }
 
-pub fn resample_count(cs: &[f64], n: usize) -> LineAnswer
-    ensures { line_answer result ≡ resample_count_call cs.now n }
+#[tactic(auto, using(crate::proofs::Laws::count_passes, crate::proofs::Laws::count_stands, crate::proofs::Laws::asked_few), unfolding(geometry::specs::Calls::resample_count_call))]
+pub fn resample_count(cs: &[f64], n: usize) -> Result<Line, Refusal>
+    ensures { answered_as points_of result ≡ resample_count_call cs.now n }
 {
-    match tests::count(tests::coords_on_map(cs), tests::larger(n, cs.len() / 3)) {
-        Tested::Refused(r) => LineAnswer {
-            tested: Tested::Refused(r),
-            line: centerline::empty(),
-        },
-        Tested::Passed => LineAnswer {
-            tested: Tested::Passed,
-            line: centerline::resample::resample_count(cs, n),
-        },
-    }
+    tests::line_and_count(cs, n)?;
+    Ok(centerline::resample::resample_count(cs, n))
 }
 
-pub fn centerline(left: &[f64], right: &[f64]) -> LineAnswer
-    ensures { centerline_answer result ≡ centerline_call left.now right.now }
+#[tactic(auto, using(crate::proofs::Laws::count_passes, crate::proofs::Laws::count_stands, crate::proofs::Laws::lines_few), unfolding(geometry::specs::Calls::centerline_call))]
+pub fn centerline(left: &[f64], right: &[f64]) -> Result<Option<Line>, Refusal>
+    ensures { answered_as line_option result ≡ centerline_call left.now right.now }
 {
-    let ok = tests::both(tests::coords_on_map(left), tests::coords_on_map(right));
-    match tests::count(ok, tests::larger(left.len() / 3, right.len() / 3)) {
-        Tested::Refused(r) => LineAnswer {
-            tested: Tested::Refused(r),
-            line: centerline::empty(),
-        },
-        Tested::Passed => LineAnswer {
-            tested: Tested::Passed,
-            line: centerline::middle::centerline(left, right),
-        },
-    }
+    tests::lines(left, right)?;
+    Ok(centerline::middle::centerline(left, right))
 }

@@ -1,6 +1,7 @@
 // Geometry for programs in other languages: the refusing calls of `geometry_calls`, numbers and slices
 // in, the answer in arrays that the caller lends. The result is 0 where an answer was written; else it is
-// the refusal's number, or 254 where there is no answer, and nothing was written.
+// the refusal's number, or 254 where there is no answer, and nothing was written. C has neither generic functions nor Option: so
+// each call stands for the plane and for space, a point is its coordinates, and a code says what was written.
 
 #![tactic(auto)]
 

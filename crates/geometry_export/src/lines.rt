@@ -7,15 +7,17 @@ ghost use Rattle.geometry_export.specs.Lent.{flagged, lent, number_in, word_in, 
 use crate::written;
 use geometry::Point2;
 
+#[tactic(auto, using(told::proofs::Laws::always_of))]
 #[unsafe(no_mangle)]
 pub extern "C" fn geometry_length(cs: &[f64], out: &mut [f64; 1]) -> u64
     ensures { Told (always (length_call cs.now)) number_in result out.old out.new }
 {
     let a = geometry_calls::lines::length(cs);
-    written::number(a, out)
+    written::always(a, out)
 }
 
 // At least two points, and a length above 1e-9.
+#[tactic(auto, using(told::proofs::Laws::always_of))]
 #[unsafe(no_mangle)]
 pub extern "C" fn geometry_is_valid(cs: &[f64], valid: &mut [u64; 1]) -> u64
     ensures { Told (always (flagged (is_valid_call cs.now))) word_in result valid.old valid.new }
@@ -25,6 +27,7 @@ pub extern "C" fn geometry_is_valid(cs: &[f64], valid: &mut [u64; 1]) -> u64
 }
 
 // No answer where there are no points.
+#[tactic(auto, using(told::proofs::Laws::perhaps_of))]
 #[unsafe(no_mangle)]
 pub extern "C" fn geometry_locate(
     cs: &[f64],
@@ -39,33 +42,37 @@ pub extern "C" fn geometry_locate(
 }
 
 // No answer where there are no points.
+#[tactic(auto, using(told::proofs::Laws::perhaps_of))]
 #[unsafe(no_mangle)]
 pub extern "C" fn geometry_point_at(cs: &[f64], s: f64, out: &mut [f64; 3]) -> u64
     ensures { Told (perhaps (point_at_call cs.now s)) space_in result out.old out.new }
 {
     let a = geometry_calls::lines::point_at(cs, s);
-    written::place(a, out)
+    written::perhaps(a, out)
 }
 
 // No answer where there are no points.
+#[tactic(auto, using(told::proofs::Laws::perhaps_of))]
 #[unsafe(no_mangle)]
 pub extern "C" fn geometry_point_at_fraction(cs: &[f64], t: f64, out: &mut [f64; 3]) -> u64
     ensures { Told (perhaps (point_at_fraction_call cs.now t)) space_in result out.old out.new }
 {
     let a = geometry_calls::lines::point_at_fraction(cs, t);
-    written::place(a, out)
+    written::perhaps(a, out)
 }
 
 // No answer where no segment has a direction in the plane.
+#[tactic(auto, using(told::proofs::Laws::perhaps_of))]
 #[unsafe(no_mangle)]
 pub extern "C" fn geometry_direction_at(cs: &[f64], s: f64, out: &mut [f64; 2]) -> u64
     ensures { Told (perhaps (direction_at_call cs.now s)) plane_in result out.old out.new }
 {
     let a = geometry_calls::lines::direction_at(cs, s);
-    written::direction(a, out)
+    written::perhaps(a, out)
 }
 
 // No answer where there are no points.
+#[tactic(auto, using(told::proofs::Laws::perhaps_of))]
 #[unsafe(no_mangle)]
 pub extern "C" fn geometry_nearest_point(
     cs: &[f64],

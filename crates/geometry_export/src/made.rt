@@ -6,6 +6,7 @@ ghost use Rattle.geometry_export.specs.Lent.{lent, stations_in, line_in};
 use crate::written;
 
 // The length up to each point.
+#[tactic(auto, using(told::proofs::Laws::always_of))]
 #[unsafe(no_mangle)]
 pub extern "C" fn geometry_stations(cs: &[f64], out: &mut [f64; 64], count: &mut [u64; 1]) -> u64
     ensures { Told (always (stations_call cs.now)) stations_in result (lent out.old count.old) (lent out.new count.new) }
@@ -14,6 +15,7 @@ pub extern "C" fn geometry_stations(cs: &[f64], out: &mut [f64; 64], count: &mut
     written::stations(a, out, count)
 }
 
+#[tactic(auto, using(told::proofs::Laws::always_of))]
 #[unsafe(no_mangle)]
 pub extern "C" fn geometry_reversed(cs: &[f64], out: &mut [f64; 192], count: &mut [u64; 1]) -> u64
     ensures { Told (always (reversed_call cs.now)) line_in result (lent out.old count.old) (lent out.new count.new) }
@@ -23,6 +25,7 @@ pub extern "C" fn geometry_reversed(cs: &[f64], out: &mut [f64; 192], count: &mu
 }
 
 // At least two points, unless there are none.
+#[tactic(auto, using(told::proofs::Laws::always_of))]
 #[unsafe(no_mangle)]
 pub extern "C" fn geometry_resample_count(
     cs: &[f64],
@@ -37,6 +40,7 @@ pub extern "C" fn geometry_resample_count(
 }
 
 // No answer where a side has no points.
+#[tactic(auto, using(told::proofs::Laws::perhaps_of))]
 #[unsafe(no_mangle)]
 pub extern "C" fn geometry_centerline(
     left: &[f64],

@@ -7,14 +7,16 @@ ghost use Rattle.geometry_export.specs.Lent.{number_in, space_in};
 use crate::written;
 use geometry::{Point2, Point3};
 
+#[tactic(auto, using(told::proofs::Laws::always_of), unfolding(geometry::specs::Calls::distance2_call))]
 #[unsafe(no_mangle)]
 pub extern "C" fn geometry_distance2(ax: f64, ay: f64, bx: f64, by: f64, out: &mut [f64; 1]) -> u64
     ensures { Told (always (distance2_call (at2 ax ay) (at2 bx by))) number_in result out.old out.new }
 {
-    let a = geometry_calls::points::distance2(Point2 { x: ax, y: ay }, Point2 { x: bx, y: by });
-    written::number(a, out)
+    let a = geometry_calls::points::distance(Point2 { x: ax, y: ay }, Point2 { x: bx, y: by });
+    written::always(a, out)
 }
 
+#[tactic(auto, using(told::proofs::Laws::always_of), unfolding(geometry::specs::Calls::distance3_call))]
 #[unsafe(no_mangle)]
 pub extern "C" fn geometry_distance3(
     ax: f64,
@@ -27,7 +29,7 @@ pub extern "C" fn geometry_distance3(
 ) -> u64
     ensures { Told (always (distance3_call (at3 ax ay az) (at3 bx by bz))) number_in result out.old out.new }
 {
-    let a = geometry_calls::points::distance3(
+    let a = geometry_calls::points::distance(
         Point3 {
             x: ax,
             y: ay,
@@ -39,10 +41,11 @@ pub extern "C" fn geometry_distance3(
             z: bz,
         },
     );
-    written::number(a, out)
+    written::always(a, out)
 }
 
 // Between a (t = 0) and b (t = 1).
+#[tactic(auto, using(told::proofs::Laws::always_of))]
 #[unsafe(no_mangle)]
 pub extern "C" fn geometry_lerp(
     ax: f64,
@@ -69,10 +72,11 @@ pub extern "C" fn geometry_lerp(
         },
         t,
     );
-    written::space(a, out)
+    written::always(a, out)
 }
 
 // How far along a to b the point nearest to p is, from 0 to 1.
+#[tactic(auto, using(told::proofs::Laws::always_of))]
 #[unsafe(no_mangle)]
 pub extern "C" fn geometry_project_on_segment(
     px: f64,
@@ -90,5 +94,5 @@ pub extern "C" fn geometry_project_on_segment(
         Point2 { x: ax, y: ay },
         Point2 { x: bx, y: by },
     );
-    written::number(a, out)
+    written::always(a, out)
 }

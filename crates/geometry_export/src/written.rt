@@ -1,184 +1,179 @@
 // Answers written into lent arrays, and their codes.
-ghost use Rattle.std.specs.Prelude.{◌≡◌, cond};
+ghost use Rattle.std.specs.Prelude.{◌≡◌};
+ghost use Rattle.refusal.specs.Answer.{answered, answered_as};
 ghost use Rattle.told.specs.Told.{Told, always, perhaps};
-ghost use Rattle.geometry_calls.specs.Answers.{number_answer, truth_answer, plane_answer, point_answer, location_answer, place_answer, direction_answer, nearest_answer, line_answer, centerline_answer, stations_answer};
+ghost use Rattle.centerline.specs.Line.{points_of, line_option, stations_of};
 ghost use Rattle.geometry_export.specs.Lent.{lent, word_in, number_in, plane_in, space_in, location_in, nearest_in, line_in, stations_in, flagged};
 
-use geometry::{MaybeLocation, MaybeNearest, MaybePoint2, MaybePoint3};
-use geometry_calls::{
-    DirectionAnswer, LineAnswer, LocationAnswer, NearestAnswer, NumberAnswer, PlaceAnswer,
-    PlaneAnswer, PointAnswer, StationsAnswer, Tested, TruthAnswer,
-};
+use centerline::{Line, Stations};
+use geometry::{Location, NearestPoint, Point2, Point3};
+use refusal::Refusal;
 
 // The result where there is no answer: a number that no refusal has.
 pub const NO_ANSWER: u64 = 254;
 
-pub fn number(a: NumberAnswer, out: &mut [f64; 1]) -> u64
-    ensures { Told (always (number_answer a)) number_in result out.old out.new }
-{
-    match a {
-        NumberAnswer::Refused(x) => refusal::number(x),
-        NumberAnswer::Number(n) => {
-            *out = [n];
-            0
-        }
+// ---- into one array
+
+// What is written into an array, and how it reads there.
+pub trait Written {
+    type Room;
+
+    ghost read: { Self.Room → Self };
+
+    fn write(self, out: &mut Self::Room)
+        ensures { read out.new ≡ self };
+}
+
+impl Written for f64 {
+    type Room = [f64; 1];
+
+    ghost read = { number_in };
+
+    fn write(self, out: &mut [f64; 1]) {
+        *out = [self];
     }
 }
 
-pub fn plane(a: PlaneAnswer, out: &mut [f64; 2]) -> u64
-    ensures { Told (always (plane_answer a)) plane_in result out.old out.new }
-{
-    match a {
-        PlaneAnswer::Refused(x) => refusal::number(x),
-        PlaneAnswer::Point(p) => {
-            *out = [p.x, p.y];
-            0
-        }
+impl Written for Point2 {
+    type Room = [f64; 2];
+
+    ghost read = { plane_in };
+
+    fn write(self, out: &mut [f64; 2]) {
+        *out = [self.x, self.y];
     }
 }
 
-pub fn space(a: PointAnswer, out: &mut [f64; 3]) -> u64
-    ensures { Told (always (point_answer a)) space_in result out.old out.new }
+impl Written for Point3 {
+    type Room = [f64; 3];
+
+    ghost read = { space_in };
+
+    fn write(self, out: &mut [f64; 3]) {
+        *out = [self.x, self.y, self.z];
+    }
+}
+
+pub fn always<T: Written + Drop>(a: Result<T, Refusal>, out: &mut T::Room) -> u64
+    ensures { Told (always (answered a)) T.read result out.old out.new }
 {
     match a {
-        PointAnswer::Refused(x) => refusal::number(x),
-        PointAnswer::Point(p) => {
-            *out = [p.x, p.y, p.z];
+        Ok(x) => {
+            x.write(out);
             0
         }
+        Err(refused) => refused.number(),
+    }
+}
+
+pub fn perhaps<T: Written + Drop>(a: Result<Option<T>, Refusal>, out: &mut T::Room) -> u64
+    ensures { Told (perhaps (answered a)) T.read result out.old out.new }
+{
+    match a {
+        Ok(Some(x)) => {
+            x.write(out);
+            0
+        }
+        Ok(None) => NO_ANSWER,
+        Err(r) => r.number(),
     }
 }
 
 // 1 for yes, 0 for no.
-pub fn flag(b: bool) -> u64
-    ensures { result ≡ cond b 1 0 }
-{
-    if b { 1 } else { 0 }
-}
-
-pub fn truth(a: TruthAnswer, word: &mut [u64; 1]) -> u64
-    ensures { Told (always (flagged (truth_answer a))) word_in result word.old word.new }
+#[tactic(auto, unfolding(crate::specs::Lent::flagged))]
+pub fn truth(a: Result<bool, Refusal>, word: &mut [u64; 1]) -> u64
+    ensures { Told (always (flagged (answered a))) word_in result word.old word.new }
 {
     match a {
-        TruthAnswer::Refused(x) => refusal::number(x),
-        TruthAnswer::Truth(b) => {
-            *word = [flag(b)];
+        Ok(b) => {
+            *word = [u64::from(b)];
             0
         }
+        Err(r) => r.number(),
     }
 }
 
-pub fn place(a: PlaceAnswer, out: &mut [f64; 3]) -> u64
-    ensures { Told (perhaps (place_answer a)) space_in result out.old out.new }
+// ---- into two arrays, numbers and a word
+
+// Each has sizes and a reading of its own: one function for all would take them as parameters, and be called once for each.
+
+pub fn location(
+    a: Result<Option<Location>, Refusal>,
+    fraction: &mut [f64; 1],
+    segment: &mut [u64; 1],
+) -> u64
+    ensures { Told (perhaps (answered a)) location_in result (lent fraction.old segment.old) (lent fraction.new segment.new) }
 {
     match a {
-        PlaceAnswer::Refused(x) => refusal::number(x),
-        PlaceAnswer::Found(m) => match m {
-            MaybePoint3::Nothing => NO_ANSWER,
-            MaybePoint3::At(p) => {
-                *out = [p.x, p.y, p.z];
-                0
-            }
-        },
+        Ok(Some(l)) => {
+            *fraction = [l.fraction];
+            *segment = [l.segment];
+            0
+        }
+        Ok(None) => NO_ANSWER,
+        Err(r) => r.number(),
     }
 }
 
-pub fn direction(a: DirectionAnswer, out: &mut [f64; 2]) -> u64
-    ensures { Told (perhaps (direction_answer a)) plane_in result out.old out.new }
+pub fn nearest(
+    a: Result<Option<NearestPoint>, Refusal>,
+    out: &mut [f64; 6],
+    segment: &mut [u64; 1],
+) -> u64
+    ensures { Told (perhaps (answered a)) nearest_in result (lent out.old segment.old) (lent out.new segment.new) }
 {
     match a {
-        DirectionAnswer::Refused(x) => refusal::number(x),
-        DirectionAnswer::Found(m) => match m {
-            MaybePoint2::Nothing => NO_ANSWER,
-            MaybePoint2::At(p) => {
-                *out = [p.x, p.y];
-                0
-            }
-        },
+        Ok(Some(n)) => {
+            let q = n.point;
+            *out = [q.x, q.y, q.z, n.distance, n.station, n.lateral];
+            *segment = [n.segment];
+            0
+        }
+        Ok(None) => NO_ANSWER,
+        Err(r) => r.number(),
     }
 }
 
-pub fn location(a: LocationAnswer, fraction: &mut [f64; 1], segment: &mut [u64; 1]) -> u64
-    ensures { Told (perhaps (location_answer a)) location_in result (lent fraction.old segment.old) (lent fraction.new segment.new) }
+pub fn line(a: Result<Line, Refusal>, out: &mut [f64; 192], count: &mut [u64; 1]) -> u64
+    ensures { Told (always (answered_as points_of a)) line_in result (lent out.old count.old) (lent out.new count.new) }
 {
     match a {
-        LocationAnswer::Refused(x) => refusal::number(x),
-        LocationAnswer::Found(m) => match m {
-            MaybeLocation::Nothing => NO_ANSWER,
-            MaybeLocation::At(l) => {
-                *fraction = [l.fraction];
-                *segment = [l.segment];
-                0
-            }
-        },
-    }
-}
-
-pub fn nearest(a: NearestAnswer, out: &mut [f64; 6], segment: &mut [u64; 1]) -> u64
-    ensures { Told (perhaps (nearest_answer a)) nearest_in result (lent out.old segment.old) (lent out.new segment.new) }
-{
-    match a {
-        NearestAnswer::Refused(x) => refusal::number(x),
-        NearestAnswer::Found(m) => match m {
-            MaybeNearest::Nothing => NO_ANSWER,
-            MaybeNearest::At(n) => {
-                let q = n.point;
-                *out = [q.x, q.y, q.z, n.distance, n.station, n.lateral];
-                *segment = [n.segment];
-                0
-            }
-        },
-    }
-}
-
-pub fn line(a: LineAnswer, out: &mut [f64; 192], count: &mut [u64; 1]) -> u64
-    ensures { Told (always (line_answer a)) line_in result (lent out.old count.old) (lent out.new count.new) }
-{
-    let t = a.tested;
-    match t {
-        Tested::Refused(x) => refusal::number(x),
-        Tested::Passed => {
-            let l = a.line;
+        Ok(l) => {
             let coords = l.coords;
             *out = coords;
             *count = [l.count as u64];
             0
         }
+        Err(r) => r.number(),
     }
 }
 
-// A line without points is no centreline.
-pub fn center(a: LineAnswer, out: &mut [f64; 192], count: &mut [u64; 1]) -> u64
-    ensures { Told (perhaps (centerline_answer a)) line_in result (lent out.old count.old) (lent out.new count.new) }
+#[tactic(auto, unfolding(centerline::specs::Line::line_option))]
+pub fn center(a: Result<Option<Line>, Refusal>, out: &mut [f64; 192], count: &mut [u64; 1]) -> u64
+    ensures { Told (perhaps (answered_as line_option a)) line_in result (lent out.old count.old) (lent out.new count.new) }
 {
-    let t = a.tested;
-    match t {
-        Tested::Refused(x) => refusal::number(x),
-        Tested::Passed => {
-            let l = a.line;
-            if l.count == 0 {
-                return NO_ANSWER;
-            }
+    match a {
+        Ok(Some(l)) => {
             let coords = l.coords;
             *out = coords;
             *count = [l.count as u64];
             0
         }
+        Ok(None) => NO_ANSWER,
+        Err(r) => r.number(),
     }
 }
 
-pub fn stations(a: StationsAnswer, out: &mut [f64; 64], count: &mut [u64; 1]) -> u64
-    ensures { Told (always (stations_answer a)) stations_in result (lent out.old count.old) (lent out.new count.new) }
+pub fn stations(a: Result<Stations, Refusal>, out: &mut [f64; 64], count: &mut [u64; 1]) -> u64
+    ensures { Told (always (answered_as stations_of a)) stations_in result (lent out.old count.old) (lent out.new count.new) }
 {
-    let t = a.tested;
-    match t {
-        Tested::Refused(x) => refusal::number(x),
-        Tested::Passed => {
-            let s = a.stations;
+    match a {
+        Ok(s) => {
             let values = s.values;
             *out = values;
             *count = [s.count as u64];
             0
         }
+        Err(x) => x.number(),
     }
 }

@@ -3,7 +3,7 @@ use Prim.Native.Nat.{ℕ, suc, ◌+◌, ◌-◌, ◌/◌, ◌<◌, ◌≤◌, mi
 use mathlib.Core.Path.{◌≡◌, refl, sym, ap, ◌∙◌}
 use mathlib.Core.Bool.{true, false, ◌&&◌, cond}
 use mathlib.Core.List.{List, [], ◌∷◌}
-use mathlib.Core.Option.{Option, none, some}
+use Rattle.std.specs.Prelude.{Option, None, Some}
 use native.Mathlib.Omega.{arith}
 use native.Mathlib.Numerals.{add-one}
 use lib.ListN.{length}
@@ -50,11 +50,11 @@ length_next xs i = rw (add-one i)
 -- ---- where a station lies
 
 module _ (xs : Polyline) (s : Float) (i : ℕ) (acc seg : Float) (a : acc ≡ length_to xs i) (e : seg ≡ segment_length xs i) where
-  pub reach_here : (f : Float) → (le s (acc ⊕ seg) && lt f0 seg) ≡ true → f ≡ clamp ((s ⊖ acc) ⊘ seg) f0 f1 → reach xs s i ≡ some (location i f)
+  pub reach_here : (f : Float) → (le s (acc ⊕ seg) && lt f0 seg) ≡ true → f ≡ clamp ((s ⊖ acc) ⊘ seg) f0 f1 → reach xs s i ≡ Some (location i f)
   unfolding reach
   reach_here f t c = rw (← a, ← e, t, c)
 
-  pub reach_past : (le s (acc ⊕ seg) && lt f0 seg) ≡ false → reach xs s i ≡ none
+  pub reach_past : (le s (acc ⊕ seg) && lt f0 seg) ≡ false → reach xs s i ≡ None
   unfolding reach
   reach_past t = rw (← a, ← e, t)
 
@@ -88,33 +88,33 @@ module _ (xs : Polyline) (s : Float) where
     reaching_end d h = rw (r.goes, first_end (reach xs s) m i h)
 
 -- by how many points there are
-pub locate_none : (xs : Polyline) (s : Float) → length xs ≡ 0 → none ≡ locate xs s
+pub locate_none : (xs : Polyline) (s : Float) → length xs ≡ 0 → None ≡ locate xs s
 unfolding locate
 locate_none [] s h = refl
-locate_none (p ∷ xs) s h = absurd (let z : ⊥ = omega arith in z)
+locate_none (p ∷ xs) s h = absurd (omega arith)
 
-pub locate_one : (xs : Polyline) (s : Float) → length xs ≡ 1 → some (location 0 f0) ≡ locate xs s
+pub locate_one : (xs : Polyline) (s : Float) → length xs ≡ 1 → Some (location 0 f0) ≡ locate xs s
 unfolding locate
-locate_one [] s h = absurd (let z : ⊥ = omega arith in z)
+locate_one [] s h = absurd (omega arith)
 locate_one (p ∷ []) s h = refl
-locate_one (p ∷ q ∷ xs) s h = absurd (let z : ⊥ = omega arith in z)
+locate_one (p ∷ q ∷ xs) s h = absurd (omega arith)
 
 locate_many : (xs : Polyline) (s : Float) → 1 < length xs
-    → locate xs s ≡ cond (le s f0) (some (location 0 f0)) (some (or_default (first_from (reach xs s) (length xs - 1) 0) (location (length xs - 2) f1)))
+    → locate xs s ≡ cond (le s f0) (Some (location 0 f0)) (Some (or_default (first_from (reach xs s) (length xs - 1) 0) (location (length xs - 2) f1)))
 unfolding locate
-locate_many [] s h = absurd (let z : ⊥ = omega arith in z)
-locate_many (p ∷ []) s h = absurd (let z : ⊥ = omega arith in z)
+locate_many [] s h = absurd (omega arith)
+locate_many (p ∷ []) s h = absurd (omega arith)
 locate_many (p ∷ q ∷ xs) s h =
     let a : suc (suc (length xs)) - 1 ≡ suc (length xs) = omega arith in
     let b : suc (suc (length xs)) - 2 ≡ length xs = omega arith in
     rw (a, b)
 
 module _ (xs : Polyline) (s : Float) (h : 1 < length xs) where
-  pub locate_start : le s f0 ≡ true → some (location 0 f0) ≡ locate xs s
+  pub locate_start : le s f0 ≡ true → Some (location 0 f0) ≡ locate xs s
   locate_start t = rw (locate_many xs s h, t)
 
   pub locate_past : (n : ℕ) (l : Location) → length xs ≡ n → le s f0 ≡ false → l ≡ or_default (first_from (reach xs s) (n - 1) 0) (location (n - 2) f1)
-      → some l ≡ locate xs s
+      → Some l ≡ locate xs s
   locate_past n l e t f = rw (locate_many xs s h, t, e, f)
 
 module _ (cs : List Float) (l : Location) where
@@ -128,24 +128,24 @@ module _ (cs : List Float) (l : Location) where
   point_past h = rw (length-points cs, le-ltb (suc l.segment) (length cs / 3) (omega arith))
 
 module _ (xs : Polyline) (s : Float) where
-  pub at_none : none ≡ locate xs s → none ≡ point_at xs s
+  pub at_none : None ≡ locate xs s → None ≡ point_at xs s
   unfolding point_at
-  at_none e = ap (λ (o : Option Location). elim o [ none ↦ none | some l ↦ some (point_of xs l) ]) e
+  at_none e = ap (λ (o : Option Location). elim o [ None ↦ None | Some l ↦ Some (point_of xs l) ]) e
 
-  pub at_some : (l : Location) (p : Point3) → some l ≡ locate xs s → p ≡ point_of xs l → some p ≡ point_at xs s
+  pub at_some : (l : Location) (p : Point3) → Some l ≡ locate xs s → p ≡ point_of xs l → Some p ≡ point_at xs s
   unfolding point_at
-  at_some l p e f = ap some f ∙ ap (λ (o : Option Location). elim o [ none ↦ none | some l ↦ some (point_of xs l) ]) e
+  at_some l p e f = ap Some f ∙ ap (λ (o : Option Location). elim o [ None ↦ None | Some l ↦ Some (point_of xs l) ]) e
 
 -- ---- direction
 
 module _ (cs : List Float) (i start : ℕ) (e : start ≡ min i (length cs / 3 - 2)) where
-  pub direction_forward : (u : Point2) → some u ≡ first_from (segment_direction (polyline_of cs)) (length cs / 3 - 1 - start) start → some u ≡ direction_from (polyline_of cs) i
+  pub direction_forward : (u : Point2) → Some u ≡ first_from (segment_direction (polyline_of cs)) (length cs / 3 - 1 - start) start → Some u ≡ direction_from (polyline_of cs) i
   unfolding direction_from
   direction_forward u f =
       let k : min i (length cs / 3 - 1 - 1) ≡ start = omega arith in
       rw (length-points cs, k, ← f)
 
-  pub direction_backward : (o : Option Point2) → none ≡ first_from (segment_direction (polyline_of cs)) (length cs / 3 - 1 - start) start
+  pub direction_backward : (o : Option Point2) → None ≡ first_from (segment_direction (polyline_of cs)) (length cs / 3 - 1 - start) start
       → o ≡ first_below (segment_direction (polyline_of cs)) start → o ≡ direction_from (polyline_of cs) i
   unfolding direction_from
   direction_backward o f g =
@@ -153,22 +153,22 @@ module _ (cs : List Float) (i start : ℕ) (e : start ≡ min i (length cs / 3 -
       rw (length-points cs, k, ← f, g)
 
 module _ (cs : List Float) (s : Float) where
-  pub direction_few : length cs / 3 < 2 → none ≡ direction_at (polyline_of cs) s
+  pub direction_few : length cs / 3 < 2 → None ≡ direction_at (polyline_of cs) s
   unfolding direction_at
   direction_few h = rw (length-points cs, lt-ltb (length cs / 3) 2 h)
 
   module _ (h : 2 ≤ length cs / 3) where
-    pub direction_none : none ≡ locate (polyline_of cs) s → none ≡ direction_at (polyline_of cs) s
+    pub direction_none : None ≡ locate (polyline_of cs) s → None ≡ direction_at (polyline_of cs) s
     unfolding direction_at
     direction_none e =
         rw (length-points cs, le-ltb (length cs / 3) 2 h)
-        (ap (λ (o : Option Location). elim o [ none ↦ none | some l ↦ direction_from (polyline_of cs) l.segment ]) e)
+        (ap (λ (o : Option Location). elim o [ None ↦ None | Some l ↦ direction_from (polyline_of cs) l.segment ]) e)
 
-    pub direction_some : (l : Location) (o : Option Point2) → some l ≡ locate (polyline_of cs) s → o ≡ direction_from (polyline_of cs) l.segment → o ≡ direction_at (polyline_of cs) s
+    pub direction_some : (l : Location) (o : Option Point2) → Some l ≡ locate (polyline_of cs) s → o ≡ direction_from (polyline_of cs) l.segment → o ≡ direction_at (polyline_of cs) s
     unfolding direction_at
     direction_some l o e f =
         rw (length-points cs, le-ltb (length cs / 3) 2 h)
-        (f ∙ ap (λ (o : Option Location). elim o [ none ↦ none | some l ↦ direction_from (polyline_of cs) l.segment ]) e)
+        (f ∙ ap (λ (o : Option Location). elim o [ None ↦ None | Some l ↦ direction_from (polyline_of cs) l.segment ]) e)
 
 -- ---- the nearest point
 
@@ -201,7 +201,7 @@ pub record Best (xs : Polyline) (p : Point2) (best : Float) (at : ℕ) (start ac
   pub sum : acc ≡ length_to xs i
   pub begins : start ≡ length_to xs at
   pub away : best ≡ (nearest_on xs p at).distance
-  pub winner : nearest_to xs p i ≡ some (nearest_on xs p at)
+  pub winner : nearest_to xs p i ≡ Some (nearest_on xs p at)
 
 module _ (xs : Polyline) (p : Point2) where
   pub best_start : (best acc : Float) → best ≡ (nearest_on xs p 0).distance → acc ≡ segment_length xs 0 → Best xs p best 0 f0 (f0 ⊕ acc) 1
@@ -236,18 +236,18 @@ module _ (xs : Polyline) (p : Point2) where
 
 pub nearest_many : (xs : Polyline) (p : Point2) → 1 < length xs → nearest_to xs p (length xs - 1) ≡ nearest_point xs p
 unfolding nearest_point
-nearest_many [] p h = absurd (let z : ⊥ = omega arith in z)
-nearest_many (q ∷ []) p h = absurd (let z : ⊥ = omega arith in z)
+nearest_many [] p h = absurd (omega arith)
+nearest_many (q ∷ []) p h = absurd (omega arith)
 nearest_many (q ∷ r ∷ s) p h = let e : suc (suc (length s)) - 1 ≡ suc (length s) = omega arith in rw e
 
-pub nearest_none : (xs : Polyline) (p : Point2) → length xs ≡ 0 → none ≡ nearest_point xs p
+pub nearest_none : (xs : Polyline) (p : Point2) → length xs ≡ 0 → None ≡ nearest_point xs p
 unfolding nearest_point
 nearest_none [] p h = refl
-nearest_none (q ∷ xs) p h = absurd (let z : ⊥ = omega arith in z)
+nearest_none (q ∷ xs) p h = absurd (omega arith)
 
 pub nearest_one : (xs : Polyline) (p : Point2) (q : Point3) (d : Float) → length xs ≡ 1 → q ≡ pt xs 0 → d ≡ distance2 (xy q) p
-    → some (record { point = q; distance = d; station = f0; segment = 0; lateral = f0 }) ≡ nearest_point xs p
+    → Some (record { point = q; distance = d; station = f0; segment = 0; lateral = f0 }) ≡ nearest_point xs p
 unfolding nearest_point
-nearest_one [] p q d h e f = absurd (let z : ⊥ = omega arith in z)
+nearest_one [] p q d h e f = absurd (omega arith)
 nearest_one (r ∷ []) p q d h e f = rw (f, e)
-nearest_one (r ∷ s ∷ xs) p q d h e f = absurd (let z : ⊥ = omega arith in z)
+nearest_one (r ∷ s ∷ xs) p q d h e f = absurd (omega arith)

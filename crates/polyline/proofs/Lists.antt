@@ -3,7 +3,7 @@ use Prim.Native.Nat.{ℕ, zero, suc, ◌+◌, ◌-◌, ◌<◌, ◌≤◌}
 use mathlib.Core.Path.{◌≡◌, refl, ap, ◌∙◌}
 use mathlib.Core.Logic.{⊎_elim}
 use mathlib.Core.List.{[], ◌∷◌}
-use mathlib.Core.Option.{Option, none, some}
+use Rattle.std.specs.Prelude.{Option, None, Some}
 use native.Mathlib.Nat.{eq-or-lt_of_le, le_of_suc-le-suc, not-suc-le-zero}
 use native.Mathlib.Omega.{arith}
 use native.Mathlib.Numerals.{add-one}
@@ -29,29 +29,29 @@ module _ {A : Type 0} (f : ℕ → A) where
 -- ---- a search upward, of which m - i are left at i
 
 module _ {A : Type 0} (f : ℕ → Option A) (m i : ℕ) where
-  pub first_here : (a : A) → i < m → f i ≡ some a → first_from f (m - i) i ≡ some a
+  pub first_here : (a : A) → i < m → f i ≡ Some a → first_from f (m - i) i ≡ Some a
   unfolding first_from
   first_here a h e = let s : m - i ≡ suc (m - (i + 1)) = omega arith in rw (s, e)
 
-  pub first_past : i < m → f i ≡ none → first_from f (m - i) i ≡ first_from f (m - (i + 1)) (i + 1)
+  pub first_past : i < m → f i ≡ None → first_from f (m - i) i ≡ first_from f (m - (i + 1)) (i + 1)
   unfolding first_from
   first_past h e = let s : m - i ≡ suc (m - (i + 1)) = omega arith in rw (s, e, add-one i)
 
-  pub first_end : m ≤ i → first_from f (m - i) i ≡ none
+  pub first_end : m ≤ i → first_from f (m - i) i ≡ None
   unfolding first_from
   first_end h = let s : m - i ≡ 0 = omega arith in rw s
 
 -- ---- a search downward
 
 module _ {A : Type 0} (f : ℕ → Option A) (i : ℕ) where
-  pub below_here : (a : A) → 0 < i → f (i - 1) ≡ some a → first_below f i ≡ some a
+  pub below_here : (a : A) → 0 < i → f (i - 1) ≡ Some a → first_below f i ≡ Some a
   unfolding first_below
   below_here a h e = let s : i ≡ suc (i - 1) = omega arith in ap (first_below f) s ∙ rw e
 
-  pub below_past : 0 < i → f (i - 1) ≡ none → first_below f i ≡ first_below f (i - 1)
+  pub below_past : 0 < i → f (i - 1) ≡ None → first_below f i ≡ first_below f (i - 1)
   unfolding first_below
   below_past h e = let s : i ≡ suc (i - 1) = omega arith in ap (first_below f) s ∙ rw e
 
-  pub below_end : i ≤ 0 → first_below f i ≡ none
+  pub below_end : i ≤ 0 → first_below f i ≡ None
   unfolding first_below
   below_end h = let s : i ≡ 0 = omega arith in rw s

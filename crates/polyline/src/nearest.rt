@@ -1,22 +1,22 @@
 // The point of a polyline that is nearest to a point of the plane.
-ghost use Rattle.std.specs.Prelude.{◌≡◌, ◌+◌, ◌/◌, ◌<◌, length};
-ghost use Rattle.std.proofs.Math.Option.{some};
+ghost use Rattle.std.specs.Prelude.{◌≡◌, ◌+◌, ◌/◌, ◌<◌, length, Some};
 ghost use Rattle.geometry.specs.Polyline.{polyline_of, length_to, lateral_of, nearest_on, nearest_point};
-ghost use Rattle.geometry.specs.Maybe.{maybe_point2, maybe_nearest};
 
 use crate::direction::segment_direction;
 use crate::length::{point, segment_length};
 use geometry::double::EPSILON;
-use geometry::point::{cross, distance2, flat, lerp, project_on_segment, sub2};
-use geometry::{MaybeNearest, MaybePoint2, NearestPoint, Point2};
+use geometry::point::{cross, flat, lerp, project_on_segment};
+use geometry::vector::{Vector, distance};
+use geometry::{NearestPoint, Point2};
 
-// How far to the left of a direction p lies, seen from q.
-fn lateral_of(u: MaybePoint2, p: Point2, q: Point2) -> f64
-    ensures { result ≡ lateral_of (maybe_point2 u) p q }
+// How far to the left of a direction p lies, seen from q: 0 where there is no direction, which the definition says too.
+#[tactic(auto, unfolding(geometry::specs::Polyline::lateral_of))]
+fn lateral_of(u: Option<Point2>, p: Point2, q: Point2) -> f64
+    ensures { result ≡ lateral_of u p q }
 {
     match u {
-        MaybePoint2::At(d) => cross(d, sub2(p, q)),
-        MaybePoint2::Nothing => 0.0,
+        Some(d) => cross(d, p.sub(q)),
+        None => 0.0,
     }
 }
 
@@ -29,7 +29,7 @@ fn segment_distance(cs: &[f64], p: Point2, i: usize) -> f64
     let b = point(cs, i + 1);
     let t = project_on_segment(p, flat(a), flat(b));
     let q = lerp(a, b, t);
-    distance2(flat(q), p)
+    distance(flat(q), p)
 }
 
 // The point of segment i that is nearest to p. The segment starts at the station acc.
@@ -41,7 +41,7 @@ fn nearest_on(cs: &[f64], p: Point2, i: usize, acc: f64) -> NearestPoint
     let b = point(cs, i + 1);
     let t = project_on_segment(p, flat(a), flat(b));
     let q = lerp(a, b, t);
-    let d = distance2(flat(q), p);
+    let d = distance(flat(q), p);
     let seg = segment_length(cs, i);
     NearestPoint {
         point: q,
@@ -56,15 +56,14 @@ fn nearest_on(cs: &[f64], p: Point2, i: usize, acc: f64) -> NearestPoint
 // place and distance is worked out once, at the end.
 fn nearest_of_segments(cs: &[f64], p: Point2) -> NearestPoint
     requires { 1 < length cs.now / 3 }
-    ensures { some result ≡ nearest_point (polyline_of cs.now) p }
+    ensures { Some result ≡ nearest_point (polyline_of cs.now) p }
 {
     let last = cs.len() / 3 - 1;
     let mut best = segment_distance(cs, p, 0);
     let mut at = 0;
     let mut start = 0.0;
     let mut acc = 0.0 + segment_length(cs, 0);
-    let mut i = 1;
-    while i < last {
+    for i in 1..last {
         let d = segment_distance(cs, p, i);
         let seg = segment_length(cs, i);
         if d < best - EPSILON {
@@ -72,28 +71,28 @@ fn nearest_of_segments(cs: &[f64], p: Point2) -> NearestPoint
             at = i;
             start = acc;
         }
-        acc = acc + seg;
-        i += 1;
+        acc += seg;
     }
     nearest_on(cs, p, at, start)
 }
 
-pub fn nearest_point(cs: &[f64], p: Point2) -> MaybeNearest
-    ensures { maybe_nearest result ≡ nearest_point (polyline_of cs.now) p }
+// None of no points; of one point itself; else the best of the segments. (A number of points, and no case.)
+pub fn nearest_point(cs: &[f64], p: Point2) -> Option<NearestPoint>
+    ensures { result ≡ nearest_point (polyline_of cs.now) p }
 {
     let n = cs.len() / 3;
     if n == 0 {
-        return MaybeNearest::Nothing;
+        return None;
     }
     if n == 1 {
         let q = point(cs, 0);
-        return MaybeNearest::At(NearestPoint {
+        return Some(NearestPoint {
             point: q,
-            distance: distance2(flat(q), p),
+            distance: distance(flat(q), p),
             station: 0.0,
             segment: 0,
             lateral: 0.0,
         });
     }
-    MaybeNearest::At(nearest_of_segments(cs, p))
+    Some(nearest_of_segments(cs, p))
 }

@@ -2,14 +2,15 @@
 use Rattle.centerline.proofs.Measures.{stationed_start, stationed_next, stationed_end}
 use Rattle.centerline.specs.Line.{stations_of}
 use Rattle.polyline.proofs.Lines.{length-points}
+use native.Mathlib.Omega.{arith}
 use Rattle.centerline.proofs.measure.stations.Goals as goal
 
 pub loop-i-init : goal.loop-i-init
-loop-i-init c = stationed_start _ _
+loop-i-init c = stationed_start _
 
 pub loop-i-preserved : goal.loop-i-preserved
-loop-i-preserved c = stationed_next _ _ _ _ _ _ c.loop-i.invariant c.loop-i-test.true c.requires c.segment_length-acc.ensures
+loop-i-preserved c = stationed_next _ _ _ _ c.loop-i.invariant _ (omega arith) (omega arith) c.segment_length-acc.ensures
 
 pub returns : goal.returns
 unfolding stations_of
-returns c = stationed_end _ _ _ _ _ c.loop-i.invariant c.loop-i-test.false (length-points _)
+returns c = stationed_end _ _ _ _ c.loop-i.invariant _ (omega arith) (λ h. omega arith) (length-points _)

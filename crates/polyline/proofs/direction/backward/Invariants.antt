@@ -7,6 +7,3 @@ use Rattle.polyline.proofs.direction.backward.Given as goal
 
 abbrev pub invariant-loop-i : goal.invariant-loop-i
 invariant-loop-i l = (l.i ≤ l.start) × (first_below (segment_direction (polyline_of l.cs)) l.start ≡ first_below (segment_direction (polyline_of l.cs)) l.i)
-
-abbrev pub decreases-loop-i : goal.decreases-loop-i
-decreases-loop-i l = l.i

@@ -8,6 +8,3 @@ use Rattle.polyline.proofs.direction.forward.Given as goal
 
 abbrev pub invariant-loop-i : goal.invariant-loop-i
 invariant-loop-i l = (l.i ≤ length l.cs / 3 - 1) × (first_from (segment_direction (polyline_of l.cs)) (length l.cs / 3 - 1 - l.start) l.start ≡ first_from (segment_direction (polyline_of l.cs)) (length l.cs / 3 - 1 - l.i) l.i)
-
-abbrev pub decreases-loop-i : goal.decreases-loop-i
-decreases-loop-i l = length l.cs / 3 - l.i

@@ -7,6 +7,3 @@ use Rattle.polyline.proofs.locate.reaching.Given as goal
 
 abbrev pub invariant-loop-i : goal.invariant-loop-i
 invariant-loop-i l = Reaching (polyline_of l.cs) l.s (length l.cs / 3 - 1) l.acc l.i
-
-abbrev pub decreases-loop-i : goal.decreases-loop-i
-decreases-loop-i l = length l.cs / 3 - l.i

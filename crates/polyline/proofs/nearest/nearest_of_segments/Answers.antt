@@ -2,7 +2,7 @@
 use Rattle.polyline.proofs.Lines.{length-points, best_start, best_taken, best_kept, nearest_many}
 use Rattle.geometry.specs.Polyline.{polyline_of}
 use lib.ListN.{length}
-use mathlib.Core.Option.{some}
+use Rattle.std.specs.Prelude.{Some}
 use mathlib.Core.Path.{◌≡◌, sym, ap, ◌∙◌}
 use Prim.Native.Nat.{◌-◌}
 use native.Mathlib.Omega.{arith}
@@ -23,4 +23,4 @@ nearest_on-requires c = (omega arith, c.loop-i.invariant.1.begins)
 
 pub returns : goal.returns
 returns c = let e : c.loop-i.i ≡ length (polyline_of c.args.cs.now) - 1 = omega (arith, length-points c.args.cs.now) in
-    ap some c.nearest_on.ensures ∙ sym c.loop-i.invariant.1.winner ∙ rw e (nearest_many (polyline_of c.args.cs.now) c.args.p (omega (arith, length-points c.args.cs.now)))
+    ap Some c.nearest_on.ensures ∙ sym c.loop-i.invariant.1.winner ∙ rw e (nearest_many (polyline_of c.args.cs.now) c.args.p (omega (arith, length-points c.args.cs.now)))

@@ -7,6 +7,3 @@ use Rattle.polyline.proofs.nearest.nearest_of_segments.Given as goal
 
 abbrev pub invariant-loop-i : goal.invariant-loop-i
 invariant-loop-i l = (l.i ≤ length l.cs / 3 - 1) × Best (polyline_of l.cs) l.p l.best l.at l.start l.acc l.i
-
-abbrev pub decreases-loop-i : goal.decreases-loop-i
-decreases-loop-i l = length l.cs / 3 - l.i

@@ -9,4 +9,4 @@ pub returns-then-n-eq0 : goal.returns-then-n-eq0
 returns-then-n-eq0 c = nearest_none _ _ (length-points c.args.cs.now ∙ c.if-n-eq0.true)
 
 pub returns-then-n-eq1 : goal.returns-then-n-eq1
-returns-then-n-eq1 c = nearest_one _ _ _ _ (length-points c.args.cs.now ∙ c.if-n-eq1.true) c.point-q.ensures (c.distance2.ensures ∙ ap (λ (w : Point2). distance2 w c.args.p) c.flat.ensures)
+returns-then-n-eq1 c = nearest_one _ _ _ _ (length-points c.args.cs.now ∙ c.if-n-eq1.true) c.point-q.ensures (c.distance.ensures ∙ ap (λ (w : Point2). distance2 w c.args.p) c.flat.ensures)

@@ -1,8 +1,0 @@
--- `geometry_calls::tests::plane_pair` meets its contract. Assumes nothing.
-use Rattle.geometry.specs.Calls.{refuse_off_map}
-use mathlib.Core.Bool.{◌&&◌}
-use mathlib.Core.Path.{ap, ap₂, ◌∙◌}
-use Rattle.geometry_calls.proofs.tests.plane_pair.Goals as goal
-
-pub returns : goal.returns
-returns c = c.off_map.ensures ∙ ap refuse_off_map (c.both.ensures ∙ ap₂ ◌&&◌ c.on_map2.ensures c.on_map2-2.ensures)

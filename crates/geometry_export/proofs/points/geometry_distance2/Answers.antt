@@ -1,7 +1,0 @@
--- `geometry_export::points::geometry_distance2` meets its contract. Assumes nothing.
-use Rattle.told.proofs.Laws.{telling}
-use borrow.Author.Rules.{rules}
-use Rattle.geometry_export.proofs.points.geometry_distance2.Goals as goal
-
-pub returns : goal.returns
-returns c = search (rules, telling)
