@@ -8,7 +8,7 @@ use lib.Dec.{eqb, ltb}
 use lib.ListN.{length, get_or, set, length-set, length-append}
 use lib.Seq.{get_or-set_same, get_or-set_other, set-get_or}
 use borrow.Author.Tests.{eqb-true, eqb-false, ltb-true, ltb-false}
-use Rattle.map.specs.Entity.{EntityRef, entity}
+use Rattle.map.specs.Entity.{EntityRef}
 use Rattle.changes.specs.ChangeSet.{Warning, warning, no_changes, tally_of}
 use Rattle.changes.specs.ChangeFile.{max_entries, max_warnings}
 use Rattle.changes.specs.Layout.{from_of, set_words, count_in, ref_at, refs_at, about_of, warning_at, warnings_at, list_in, change_set_of}
@@ -59,16 +59,15 @@ written_more w p (suc n) a =
     let q : p + suc n * 2 ≡ p + 2 + n * 2 = omega arith in
     ap (λ (v : List ℕ). written v (p + 2) (refs_at w (p + 2) n ++ a ∷ [])) (put_self w p) ∙ written_more w (p + 2) n a ∙ ap (λ (i : ℕ). put_ref w i a) (sym q)
 
-pushed : (s : List ℕ) (l n k x : ℕ) → n ≡ get_or s l 0
-    → set (set (set s (from_of l + n * 2) k) (from_of l + n * 2 + 1) x) l (n + 1) ≡ put_list s l (list_in s l ++ entity k x ∷ [])
-unfolding put_list list_in count_in put_ref
-pushed s l n k x e = ap₂ {C = List ℕ} (λ (w : List ℕ) (m : ℕ). set w l m)
-    (sym (written_more s (from_of l) n (entity k x)) ∙ ap (λ (m : ℕ). written s (from_of l) (refs_at s (from_of l) m ++ entity k x ∷ [])) e)
-    (let a = length-append (list_in s l) (entity k x ∷ []) in let b = length_in s l in omega arith)
+pushed : (s : List ℕ) (l n : ℕ) (a : EntityRef) → n ≡ get_or s l 0 → set (put_ref s (from_of l + n * 2) a) l (n + 1) ≡ put_list s l (list_in s l ++ a ∷ [])
+unfolding put_list list_in count_in
+pushed s l n a e = ap₂ {C = List ℕ} (λ (w : List ℕ) (m : ℕ). set w l m)
+    (sym (written_more s (from_of l) n a) ∙ ap (λ (m : ℕ). written s (from_of l) (refs_at s (from_of l) m ++ a ∷ [])) e)
+    (let d = length-append (list_in s l) (a ∷ []) in let b = length_in s l in omega arith)
 
-pub push_few : (s : List ℕ) (l n : ℕ) → n ≡ get_or s l 0 → count_in s l < max_entries → n < max_entries
+pub push_few : (s : List ℕ) (l w n : ℕ) → w ≡ l → n ≡ get_or s w 0 → count_in s l < max_entries → n < max_entries
 unfolding count_in
-push_few s l n e h = omega arith
+push_few s l w n d e h = omega (arith, rw d at e)
 
 module _ (s : List ℕ) (l : ℕ) (a : EntityRef) (r : Roomy s) (h : l < 3) (k : count_in s l < max_entries) where
   more : length (list_in s l ++ a ∷ []) ≡ count_in s l + 1
@@ -110,14 +109,14 @@ set_pushed s (suc zero) a r h k = rw (listed s 1 a r h k, other s 1 a r h k 0 (o
 set_pushed s (suc (suc zero)) a r h k = rw (listed s 2 a r h k, other s 2 a r h k 0 (omega arith) (λ e. omega arith), other s 2 a r h k 1 (omega arith) (λ e. omega arith), quiet s 2 a r h k)
 set_pushed s (suc (suc (suc l))) a r h k = absurd (omega arith)
 
-pub entry_added : (s : List ℕ) (l n k x : ℕ) → Roomy s → l < 3 → count_in s l < max_entries → n ≡ get_or s l 0
-    → EntryAdded s l (entity k x) (set (set (set s (from_of l + n * 2) k) (from_of l + n * 2 + 1) x) l (n + 1))
-entry_added s l n k x r h f e = rw (pushed s l n k x e) (record {
+pub entry_added : (s : List ℕ) (l w p n : ℕ) (a : EntityRef) (s' : List ℕ) → Roomy s → l < 3 → count_in s l < max_entries → w ≡ l → p ≡ from_of l → n ≡ get_or s w 0
+    → s' ≡ put_ref s (p + n * 2) a → EntryAdded s l a (set s' w (n + 1))
+entry_added s l w p n a s' r h f d q e g = rw (d, g, q, pushed s l n a (rw d at e)) (record {
   memory = refl;
-  room = record { size = size_put s l _ h (within s l (entity k x) r h f) r.size; few = few_still s l (entity k x) r h f };
-  set = set_pushed s l (entity k x) r h f;
-  count = counted s l (entity k x) r h f;
-  others = kept s l (entity k x) r h f;
+  room = record { size = size_put s l _ h (within s l a r h f) r.size; few = few_still s l a r h f };
+  set = set_pushed s l a r h f;
+  count = counted s l a r h f;
+  others = kept s l a r h f;
 })
 
 -- ---- a warning more
@@ -194,12 +193,15 @@ module _ (s : List ℕ) (c k x : ℕ) (r : Roomy s) (h : count_in s 3 < max_warn
   warn_room : Roomy (put_warning s c k x)
   warn_room = record { size = warn_size; few = λ m q. let u = warn_others m q in let v = r.few m q in omega arith }
 
-pub warning_added : (s : List ℕ) (n c k x : ℕ) → Roomy s → count_in s 3 < max_warnings → n ≡ get_or s 3 0
-    → WarningAdded s c k x (set (set (set (set s (from_of 3 + n * 3) c) (from_of 3 + n * 3 + 1) k) (from_of 3 + n * 3 + 2) x) 3 (n + 1))
-warning_added s n c k x r h e = rw (warned s n c k x e) (record {
-  memory = refl;
-  room = warn_room s c k x r h;
-  set = warn_set s c k x r h;
-  count = warn_count s c k x r h;
-  others = warn_others s c k x r h;
-})
+pub warning_added : (s : List ℕ) (n c : ℕ) (a : EntityRef) (s' : List ℕ) → Roomy s → count_in s 3 < max_warnings → n ≡ get_or s 3 0 → s' ≡ put_ref (set s (from_of 3 + n * 3) c) (from_of 3 + n * 3 + 1) a
+    → WarningAdded s c a.kind a.num (set s' 3 (n + 1))
+unfolding put_ref
+warning_added s n c a s' r h e g =
+    let p : from_of 3 + n * 3 + 1 + 1 ≡ from_of 3 + n * 3 + 2 = omega arith in
+    rw (g, p, warned s n c a.kind a.num e) (record {
+      memory = refl;
+      room = warn_room s c a.kind a.num r h;
+      set = warn_set s c a.kind a.num r h;
+      count = warn_count s c a.kind a.num r h;
+      others = warn_others s c a.kind a.num r h;
+    })

@@ -1,7 +1,7 @@
 -- When entries, lists and warnings are those of a change set file.
 use mathlib.Core.Path.{◌≡◌, refl}
 use mathlib.Core.Bool.{true, ◌&&◌}
-use mathlib.Core.Option.{none, some}
+use Rattle.std.specs.Prelude.{None, Some}
 use mathlib.Core.List.{List, [], ◌∷◌, ◌++◌}
 use Prim.Native.Nat.{ℕ, zero, suc, ◌+◌, ◌^◌, ◌<◌, ◌≤◌}
 use lib.Dec.{ltb, leb}
@@ -70,7 +70,7 @@ both_warned xs ys p q = record { good = every_append warning_form.fits xs ys p.g
 pub more_warned : (m n : ℕ) (xs : List Warning) → m ≤ n → Warned m xs → Warned n xs
 more_warned m n xs h p = record { good = p.good; few = let u = p.few in omega arith }
 
-about_fits : (k n : ℕ) → (ltb 0 k && ltb k 9) ≡ true → n < 2 ^ 64 → about.fits (some (entity k n)) ≡ true
+about_fits : (k n : ℕ) → (ltb 0 k && ltb k 9) ≡ true → n < 2 ^ 64 → about.fits (Some (entity k n)) ≡ true
 unfolding about via tagged below only
 about_fits zero n h p = clash h refl
 about_fits (suc k) n h p = and_i _ _ (and_i (number.fits (suc k)) _ (number_fits (suc k) (small (ltb-true (suc k) 9 (search parts)))) (search parts)) (number_fits n p)
@@ -78,15 +78,15 @@ about_fits (suc k) n h p = and_i _ _ (and_i (number.fits (suc k)) _ (number_fits
     small : suc k < 9 → suc k < 2 ^ 64
     small u = omega arith
 
-bare_fits : about.fits none ≡ true
+bare_fits : about.fits None ≡ true
 unfolding about via tagged below only number nothing
 bare_fits = refl
 
-pub one_warned : (c k n : ℕ) → (ltb 0 c && ltb c 5) ≡ true → (ltb 0 k && ltb k 9) ≡ true → n < 2 ^ 64 → Warned 1 (warning c (some (entity k n)) ∷ [])
+pub one_warned : (c k n : ℕ) → (ltb 0 c && ltb c 5) ≡ true → (ltb 0 k && ltb k 9) ≡ true → n < 2 ^ 64 → Warned 1 (warning c (Some (entity k n)) ∷ [])
 unfolding every warning_form via ◌⊗◌
 one_warned c k n h p q = record { good = and_i _ _ (and_i _ _ (kind_fits c 5 h (omega arith)) (about_fits k n p q)) refl; few = omega arith }
 
-pub bare_warned : (c : ℕ) → (ltb 0 c && ltb c 5) ≡ true → Warned 1 (warning c none ∷ [])
+pub bare_warned : (c : ℕ) → (ltb 0 c && ltb c 5) ≡ true → Warned 1 (warning c None ∷ [])
 unfolding every warning_form via ◌⊗◌
 bare_warned c h = record { good = and_i _ _ (and_i _ _ (kind_fits c 5 h (omega arith)) bare_fits) refl; few = omega arith }
 

@@ -1,10 +1,12 @@
 -- When a list in flat words is one of a change set, entry by entry; and that such a list can be walked.
-use mathlib.Core.Path.{◌≡◌, refl, sym, ap}
+use mathlib.Core.Path.{◌≡◌, refl, sym, ap, ◌∙◌}
 use mathlib.Core.Bool.{Bool, true, false, not, ◌&&◌}
 use mathlib.Core.List.{List, [], ◌∷◌}
 use Prim.Native.Nat.{ℕ, zero, suc, ◌+◌, ◌-◌, ◌*◌, ◌^◌, ◌≤◌, ◌<◌, Ordering}
 use native.Mathlib.Omega.{arith}
-use lib.ListN.{length, get_or}
+use Rattle.std.proofs.Common.{◌⊎◌, ⊎_elim}
+use Rattle.std.specs.Ordering.{is_lt}
+use lib.ListN.{length}
 use borrow.Author.Tests.{lt-ltb, ltb-true, le-leb, leb-true}
 use Rattle.rows.specs.Lists.{every}
 use Rattle.rows.proofs.Bools.{parts, and_i, and_no, agree}
@@ -12,15 +14,13 @@ use Rattle.codec.specs.Format.{◌⊗◌, only, via}
 use Rattle.codec.specs.Items.{below}
 use Rattle.codec.proofs.Fits.{list_each, list_few}
 use Rattle.map.specs.Entity.{EntityRef, entity, compare_refs}
-use Rattle.changes.specs.declared.lists.Order.{Order}
-use Rattle.changes.specs.declared.lists.Order.TheVariants.{Before, Same, After}
+use Rattle.std.specs.declared.cmp.Ordering.{Ordering as Order}
 use Rattle.changes.specs.Order.{order_of}
 use Rattle.changes.specs.ChangeFile.{max_entries, is_before, rise_after, rising_refs, kinds, entry, entries}
 use Rattle.changes.specs.Layout.{ref_at, refs_at}
 use Rattle.changes.specs.Walk.{refs_to, Walks}
 use Rattle.changes.proofs.Refs.{by_kind, before, rise_rising}
 use Rattle.changes.proofs.Entries.{entry_fits, entries_fit}
-use Rattle.changes.proofs.WalkLaws.{refs_step, refs_none}
 
 -- ---- one entry
 pub entry_kind : (a : EntityRef) → entry.fits a ≡ true → 1 ≤ a.kind
@@ -38,38 +38,24 @@ not_fits a f = go (entry.fits a) refl
     go true e = absurd (f e)
     go false e = refl
 
-module _ (k x l y : ℕ) where
-  pub follows_none : l ≡ 0 → false ≡ (is_before (compare_refs (entity k x) (entity l y)) && entry.fits (entity l y))
-  follows_none z = rw (not_fits (entity l y) (λ h. let u = entry_kind (entity l y) h in omega arith)) (sym (and_no (is_before (compare_refs (entity k x) (entity l y)))))
+module _ (a b : EntityRef) where
+  pub follows_not : b.kind ≡ 0 ⊎ 8 < b.kind → false ≡ (is_before (compare_refs a b) && entry.fits b)
+  follows_not z = rw (not_fits b (λ h. let u = entry_kind b h in let v = entry_low b h in ⊎_elim (λ e. omega arith) (λ e. omega arith) z)) (sym (and_no (is_before (compare_refs a b))))
 
-  pub follows_high : 8 < l → false ≡ (is_before (compare_refs (entity k x) (entity l y)) && entry.fits (entity l y))
-  follows_high z = rw (not_fits (entity l y) (λ h. let u = entry_low (entity l y) h in omega arith)) (sym (and_no (is_before (compare_refs (entity k x) (entity l y)))))
-
-  told : (o : Ordering) (r : Order) → r ≡ order_of o → r ≡ Before → is_before o ≡ true
+  lt_told : (o : Ordering) → is_lt (order_of o) ≡ is_before o
   unfolding is_before
-  told Ordering.lt r h e = refl
-  told Ordering.eq r h e = let q : ◌≡◌ {A = ℕ} 0 1 = cc in absurd (omega arith)
-  told Ordering.gt r h e = let q : ◌≡◌ {A = ℕ} 0 1 = cc in absurd (omega arith)
+  lt_told Ordering.lt = refl
+  lt_told Ordering.eq = refl
+  lt_told Ordering.gt = refl
 
-  untold : (o : Ordering) (r : Order) → r ≡ order_of o → (r ≡ Before → ⊥) → is_before o ≡ false
-  unfolding is_before
-  untold Ordering.lt r h f = absurd (f h)
-  untold Ordering.eq r h f = refl
-  untold Ordering.gt r h f = refl
+  pub follows_told : (r : Order) (s : Bool) → (b.kind ≡ 0 → ⊥) → b.kind ≤ 8 → b.num < 2 ^ 64 → r ≡ order_of (compare_refs a b) → s ≡ is_lt r → s ≡ (is_before (compare_refs a b) && entry.fits b)
+  follows_told r s z l n h e = rw (entry_fits b (and_i _ _ (lt-ltb 0 b.kind (omega (arith, z))) (lt-ltb b.kind 9 (omega arith))) n, and_yes (is_before (compare_refs a b))) (e ∙ ap is_lt h ∙ lt_told (compare_refs a b))
+    where
+      and_yes : (p : Bool) → (p && true) ≡ p
+      and_yes true = refl
+      and_yes false = refl
 
-  pub follows_before : (r : Order) → (l ≡ 0 → ⊥) → l ≤ 8 → y < 2 ^ 64 → r ≡ order_of (compare_refs (entity k x) (entity l y)) → r ≡ Before
-      → true ≡ (is_before (compare_refs (entity k x) (entity l y)) && entry.fits (entity l y))
-  follows_before r z a b h e = sym (and_i _ _ (told _ r h e) (entry_fits (entity l y) (and_i _ _ (lt-ltb 0 l (omega (arith, z))) (lt-ltb l 9 (omega arith))) b))
-
-  pub follows_same : (r : Order) → r ≡ order_of (compare_refs (entity k x) (entity l y)) → r ≡ Same
-      → false ≡ (is_before (compare_refs (entity k x) (entity l y)) && entry.fits (entity l y))
-  follows_same r h e = rw (untold _ r h (λ q. let z : ◌≡◌ {A = ℕ} 0 1 = cc in omega arith))
-
-  pub follows_after : (r : Order) → r ≡ order_of (compare_refs (entity k x) (entity l y)) → r ≡ After
-      → false ≡ (is_before (compare_refs (entity k x) (entity l y)) && entry.fits (entity l y))
-  follows_after r h e = rw (untold _ r h (λ q. let z : ◌≡◌ {A = ℕ} 0 1 = cc in omega arith))
-
-pub ruleset following = (follows_none, follows_high, follows_before, follows_same, follows_after)
+pub ruleset following = (follows_not, follows_told)
 
 -- ---- all entries, each after the one before it
 unfoldable pub good_after : EntityRef → List EntityRef → Bool
@@ -123,10 +109,12 @@ pub refs_at_lem : (t : List ℕ) (p n : ℕ) → refs_to t (p + n * 2) n ≡ ref
 unfolding refs_to
 refs_at_lem t p n = let q : p + n * 2 - n * 2 ≡ p = omega arith in rw q
 
-pub record Checking (b : Bool) (t : List ℕ) (e left k x : ℕ) : Type 0 where
-  pub starts : left * 2 ≤ e
-  pub ends : e ≤ length t
-  pub goes : good_after (entity k x) (refs_to t e left) ≡ b
+-- i of n entries are tested, the last of them k, x
+pub record Checking (b : Bool) (t : List ℕ) (p n i : ℕ) (a : EntityRef) : Type 0 where
+  pub room : p + 1024 ≤ length t
+  pub few : n ≤ 512
+  pub within : i ≤ n
+  pub goes : good_after a (refs_at t (p + i * 2) (n - i)) ≡ b
 
 pub checking_many : (t : List ℕ) (p n : ℕ) → 512 < n → false ≡ entries.fits (refs_at t p n)
 checking_many t p n h = go (entries.fits (refs_at t p n)) refl
@@ -135,18 +123,21 @@ checking_many t p n h = go (entries.fits (refs_at t p n)) refl
     go true e = let u = entries_few (refs_at t p n) e in let v = length_refs t p n in absurd (omega arith)
     go false e = refl
 
-pub checking_start : (t : List ℕ) (p n : ℕ) → p + 1024 ≤ length t → n ≤ 512 → Checking (entries.fits (refs_at t p n)) t (p + n * 2) n 0 0
+pub checking_start : (t : List ℕ) (p n : ℕ) → p + 1024 ≤ length t → n ≤ 512 → Checking (entries.fits (refs_at t p n)) t p n 0 (entity 0 0)
 checking_start t p n h l = record {
-  starts = omega arith;
-  ends = omega arith;
-  goes = rw (refs_at_lem t p n) (sym (good_entries (refs_at t p n) (let u = length_refs t p n in omega arith)));
+  room = h;
+  few = l;
+  within = omega arith;
+  goes = let q : p + 0 * 2 ≡ p = omega arith in let r : n - 0 ≡ n = omega arith in rw (q, r) (sym (good_entries (refs_at t p n) (let u = length_refs t p n in omega arith)));
 }
 
-module _ (b : Bool) (t : List ℕ) (e left k x : ℕ) (r : Bool) (i : Checking b t e left k x) (o : 0 < left)
-    (h : r ≡ (is_before (compare_refs (entity k x) (entity (get_or t (e - left * 2) 0) (get_or t (e - left * 2 + 1) 0))) && entry.fits (entity (get_or t (e - left * 2) 0) (get_or t (e - left * 2 + 1) 0)))) where
-  turn : (r && good_after (entity (get_or t (e - left * 2) 0) (get_or t (e - left * 2 + 1) 0)) (refs_to t e (left - 1))) ≡ b
-  unfolding good_after ref_at
-  turn = rw (h) (rw (refs_step t e left o i.starts) at i.goes)
+module _ (b : Bool) (t : List ℕ) (p n i : ℕ) (a : EntityRef) (c : Checking b t p n i a) (o : i < n) (e : EntityRef) (s : e ≡ ref_at t (p + i * 2)) (r : Bool) (h : r ≡ (is_before (compare_refs a e) && entry.fits e)) where
+  turn : (r && good_after e (refs_at t (p + (i + 1) * 2) (n - (i + 1)))) ≡ b
+  unfolding good_after refs_at
+  turn =
+      let q : n - i ≡ suc (n - (i + 1)) = omega arith in
+      let u : p + i * 2 + 2 ≡ p + (i + 1) * 2 = omega arith in
+      rw (h, s) (rw (q, u) at c.goes)
 
   pub checking_stop : not r ≡ true → false ≡ b
   checking_stop n = rw (no r n) at turn
@@ -155,16 +146,16 @@ module _ (b : Bool) (t : List ℕ) (e left k x : ℕ) (r : Bool) (i : Checking b
       no true z = sym z
       no false z = refl
 
-  pub checking_more : not r ≡ false → Checking b t e (left - 1) (get_or t (e - left * 2) 0) (get_or t (e - left * 2 + 1) 0)
-  checking_more n = record { starts = let u = i.starts in omega arith; ends = i.ends; goes = rw (yes_it r n) at turn }
+  pub checking_more : not r ≡ false → Checking b t p n (i + 1) e
+  checking_more m = record { room = c.room; few = c.few; within = omega arith; goes = rw (yes_it r m) at turn }
     where
       yes_it : (q : Bool) → not q ≡ false → q ≡ true
       yes_it true z = refl
       yes_it false z = sym z
 
-pub checking_end : (b : Bool) (t : List ℕ) (e left k x : ℕ) → Checking b t e left k x → left ≤ 0 → true ≡ b
-unfolding good_after
-checking_end b t e left k x i h = rw (refs_none t e left (omega arith)) at i.goes
+pub checking_end : (b : Bool) (t : List ℕ) (p n i : ℕ) (a : EntityRef) → Checking b t p n i a → i ≡ n → true ≡ b
+unfolding good_after refs_at
+checking_end b t p n i a c h = let q : n - i ≡ 0 = omega arith in rw q at c.goes
 
 pub ruleset checking = (checking_many, checking_start, checking_stop, checking_more, checking_end)
 

@@ -7,8 +7,8 @@ use native.Mathlib.Omega.{arith}
 use lib.ListN.{length, length-set}
 use Rattle.rows.specs.Lists.{every, keep}
 use Rattle.map.specs.Entity.{EntityRef}
-use Rattle.changes.specs.declared.lists.Order.{Order}
-use Rattle.changes.specs.declared.lists.Order.TheVariants.{Before, Same, After}
+use Rattle.std.specs.declared.cmp.Ordering.TheVariants.{Less, Equal, Greater}
+use Rattle.std.specs.declared.cmp.Ordering.{Ordering as Order}
 use Rattle.changes.specs.Order.{firsts_of}
 use Rattle.changes.specs.ChangeFile.{rising_refs, apart}
 use Rattle.changes.specs.ChangeSet.{sort_refs, without}
@@ -24,31 +24,31 @@ walks_next t e n h w = record { starts = let u = w.starts in omega arith; ends =
 
 -- ---- the order of the first entries, and the turn that it asks for
 module _ (t : List ℕ) (e n : ℕ) (s : List ℕ) (d m : ℕ) (r : Order) where
-  pub one_before : r ≡ firsts_of (refs_to t e n) (refs_to s d m) → r ≡ Before → 1 ≤ n
+  pub one_before : r ≡ firsts_of (refs_to t e n) (refs_to s d m) → r ≡ Less → 1 ≤ n
   one_before h k = before_some t e n s d m r h k
 
-  pub one_same_left : r ≡ firsts_of (refs_to t e n) (refs_to s d m) → r ≡ Same → Walks t e n → 1 ≤ n
+  pub one_same_left : r ≡ firsts_of (refs_to t e n) (refs_to s d m) → r ≡ Equal → Walks t e n → 1 ≤ n
   one_same_left h k w = (same_some t e n s d m r h k w.starts).0
 
-  pub one_same_right : r ≡ firsts_of (refs_to t e n) (refs_to s d m) → r ≡ Same → Walks t e n → 1 ≤ m
+  pub one_same_right : r ≡ firsts_of (refs_to t e n) (refs_to s d m) → r ≡ Equal → Walks t e n → 1 ≤ m
   one_same_right h k w = (same_some t e n s d m r h k w.starts).1
 
-  pub one_after : r ≡ firsts_of (refs_to t e n) (refs_to s d m) → r ≡ After → Walks t e n → 0 < n + m → 1 ≤ m
+  pub one_after : r ≡ firsts_of (refs_to t e n) (refs_to s d m) → r ≡ Greater → Walks t e n → 0 < n + m → 1 ≤ m
   one_after h k w o = after_some t e n s d m r h k w.starts o
 
-  pub one_after_left : r ≡ firsts_of (refs_to t e n) (refs_to s d m) → r ≡ After → Walks t e n → 0 < n → 1 ≤ m
+  pub one_after_left : r ≡ firsts_of (refs_to t e n) (refs_to s d m) → r ≡ Greater → Walks t e n → 0 < n → 1 ≤ m
   one_after_left h k w o = after_some t e n s d m r h k w.starts (omega arith)
 
-  pub less_before : r ≡ firsts_of (refs_to t e n) (refs_to s d m) → r ≡ Before → n - 1 + m < n + m
+  pub less_before : r ≡ firsts_of (refs_to t e n) (refs_to s d m) → r ≡ Less → n - 1 + m < n + m
   less_before h k = let u = one_before h k in omega arith
 
-  pub less_same : r ≡ firsts_of (refs_to t e n) (refs_to s d m) → r ≡ Same → Walks t e n → n - 1 + (m - 1) < n + m
+  pub less_same : r ≡ firsts_of (refs_to t e n) (refs_to s d m) → r ≡ Equal → Walks t e n → n - 1 + (m - 1) < n + m
   less_same h k w = let u = one_same_left h k w in omega arith
 
-  pub less_after : r ≡ firsts_of (refs_to t e n) (refs_to s d m) → r ≡ After → Walks t e n → 0 < n + m → n + (m - 1) < n + m
+  pub less_after : r ≡ firsts_of (refs_to t e n) (refs_to s d m) → r ≡ Greater → Walks t e n → 0 < n + m → n + (m - 1) < n + m
   less_after h k w o = let u = one_after h k w o in omega arith
 
-  pub less_after_left : r ≡ firsts_of (refs_to t e n) (refs_to s d m) → r ≡ After → Walks t e n → 0 < n → n + (m - 1) < n + m
+  pub less_after_left : r ≡ firsts_of (refs_to t e n) (refs_to s d m) → r ≡ Greater → Walks t e n → 0 < n → n + (m - 1) < n + m
   less_after_left h k w o = let u = one_after_left h k w o in omega arith
 
 pub ruleset turns = (one_before, one_same_left, one_same_right, one_after, one_after_left, less_before, less_same, less_after, less_after_left)
@@ -61,36 +61,36 @@ module _ (t : List ℕ) (e n : ℕ) (s : List ℕ) (d m : ℕ) (r : Order) (h : 
   right_first : 1 ≤ m → (rising_refs (ref_at s (d - m * 2) ∷ refs_to s d (m - 1)) ≡ true)
   right_first k = rw (refs_step s d m k v.starts) at v.rises
 
-  before_ahead : r ≡ Before → Ahead (ref_at t (e - n * 2)) (refs_to s d m)
+  before_ahead : r ≡ Less → Ahead (ref_at t (e - n * 2)) (refs_to s d m)
   before_ahead k =
       let u = before_some t e n s d m r h k in
       ahead_right (ref_at t (e - n * 2)) (refs_to t e (n - 1)) (refs_to s d m) (rw (← refs_step t e n u w.starts) (sym k ∙ h)) v.rises
 
-  after_ahead : r ≡ After → 0 < n + m → Ahead (ref_at s (d - m * 2)) (refs_to t e n)
+  after_ahead : r ≡ Greater → 0 < n + m → Ahead (ref_at s (d - m * 2)) (refs_to t e n)
   after_ahead k o =
       let u = after_some t e n s d m r h k w.starts o in
       ahead_left (ref_at s (d - m * 2)) (refs_to t e n) (refs_to s d (m - 1)) (rw (← refs_step s d m u v.starts) (sym k ∙ h)) w.rises
 
-  same_firsts : r ≡ Same → ref_at t (e - n * 2) ≡ ref_at s (d - m * 2)
+  same_firsts : r ≡ Equal → ref_at t (e - n * 2) ≡ ref_at s (d - m * 2)
   unfolding firsts_of
   same_firsts k =
       let u = same_some t e n s d m r h k w.starts in
       is_same _ _ (rw (refs_step t e n u.0 w.starts, refs_step s d m u.1 v.starts) at (sym k ∙ h))
 
   -- sorted together
-  pub sort_before : r ≡ Before → sort_refs (refs_to t e n ++ refs_to s d m) ≡ ref_at t (e - n * 2) ∷ sort_refs (refs_to t e (n - 1) ++ refs_to s d m)
+  pub sort_before : r ≡ Less → sort_refs (refs_to t e n ++ refs_to s d m) ≡ ref_at t (e - n * 2) ∷ sort_refs (refs_to t e (n - 1) ++ refs_to s d m)
   sort_before k =
       let u = before_some t e n s d m r h k in
       ap (λ (l : List EntityRef). sort_refs (l ++ refs_to s d m)) (refs_step t e n u w.starts)
       ∙ sort_first _ (refs_to t e (n - 1) ++ refs_to s d m) (ahead_both _ (refs_to t e (n - 1)) (refs_to s d m) (ahead_rest _ (refs_to t e (n - 1)) (left_first u)) (before_ahead k))
 
-  pub sort_after : r ≡ After → 0 < n + m → sort_refs (refs_to t e n ++ refs_to s d m) ≡ ref_at s (d - m * 2) ∷ sort_refs (refs_to t e n ++ refs_to s d (m - 1))
+  pub sort_after : r ≡ Greater → 0 < n + m → sort_refs (refs_to t e n ++ refs_to s d m) ≡ ref_at s (d - m * 2) ∷ sort_refs (refs_to t e n ++ refs_to s d (m - 1))
   sort_after k o =
       let u = after_some t e n s d m r h k w.starts o in
       ap (λ (l : List EntityRef). sort_refs (refs_to t e n ++ l)) (refs_step s d m u v.starts)
       ∙ sort_middle _ (refs_to t e n) (refs_to s d (m - 1)) (after_ahead k o) (ahead_rest _ (refs_to s d (m - 1)) (right_first u))
 
-  pub sort_both : r ≡ Same → sort_refs (refs_to t e n ++ refs_to s d m) ≡ ref_at t (e - n * 2) ∷ sort_refs (refs_to t e (n - 1) ++ refs_to s d (m - 1))
+  pub sort_both : r ≡ Equal → sort_refs (refs_to t e n ++ refs_to s d m) ≡ ref_at t (e - n * 2) ∷ sort_refs (refs_to t e (n - 1) ++ refs_to s d (m - 1))
   sort_both k =
       let u = same_some t e n s d m r h k w.starts in
       let q = same_firsts k in
@@ -100,42 +100,42 @@ module _ (t : List ℕ) (e n : ℕ) (s : List ℕ) (d m : ℕ) (r : Order) (h : 
       (subst (λ (a : EntityRef). Ahead a (refs_to s d (m - 1))) (sym q) (ahead_rest _ (refs_to s d (m - 1)) (right_first u.1)))
 
   -- the first without the second
-  pub sift_before : r ≡ Before → without (refs_to t e n) (refs_to s d m) ≡ ref_at t (e - n * 2) ∷ without (refs_to t e (n - 1)) (refs_to s d m)
+  pub sift_before : r ≡ Less → without (refs_to t e n) (refs_to s d m) ≡ ref_at t (e - n * 2) ∷ without (refs_to t e (n - 1)) (refs_to s d m)
   sift_before k =
       ap (λ (l : List EntityRef). without l (refs_to s d m)) (refs_step t e n (before_some t e n s d m r h k) w.starts)
       ∙ without_before _ (refs_to t e (n - 1)) (refs_to s d m) (before_ahead k)
 
-  pub sift_after : r ≡ After → 0 < n → without (refs_to t e n) (refs_to s d m) ≡ without (refs_to t e n) (refs_to s d (m - 1))
+  pub sift_after : r ≡ Greater → 0 < n → without (refs_to t e n) (refs_to s d m) ≡ without (refs_to t e n) (refs_to s d (m - 1))
   sift_after k o =
       let i : 0 < n + m = omega arith in
       ap (λ (l : List EntityRef). without (refs_to t e n) l) (refs_step s d m (after_some t e n s d m r h k w.starts i) v.starts)
       ∙ without_after _ (refs_to t e n) (refs_to s d (m - 1)) (after_ahead k i)
 
-  both_firsts : (f : List EntityRef → List EntityRef → Type 0) → r ≡ Same → f (ref_at t (e - n * 2) ∷ refs_to t e (n - 1)) (ref_at t (e - n * 2) ∷ refs_to s d (m - 1)) → f (refs_to t e n) (refs_to s d m)
+  both_firsts : (f : List EntityRef → List EntityRef → Type 0) → r ≡ Equal → f (ref_at t (e - n * 2) ∷ refs_to t e (n - 1)) (ref_at t (e - n * 2) ∷ refs_to s d (m - 1)) → f (refs_to t e n) (refs_to s d m)
   both_firsts f k g =
       let u = same_some t e n s d m r h k w.starts in
       subst (λ (l : List EntityRef). f l (refs_to s d m)) (sym (refs_step t e n u.0 w.starts))
       (subst (λ (l : List EntityRef). f (ref_at t (e - n * 2) ∷ refs_to t e (n - 1)) l) (ap (λ (a : EntityRef). a ∷ refs_to s d (m - 1)) (same_firsts k) ∙ sym (refs_step s d m u.1 v.starts)) g)
 
-  pub sift_same : r ≡ Same → without (refs_to t e n) (refs_to s d m) ≡ without (refs_to t e (n - 1)) (refs_to s d (m - 1))
+  pub sift_same : r ≡ Equal → without (refs_to t e n) (refs_to s d m) ≡ without (refs_to t e (n - 1)) (refs_to s d (m - 1))
   sift_same k =
       let u = same_some t e n s d m r h k w.starts in
       both_firsts (λ x y. without x y ≡ without (refs_to t e (n - 1)) (refs_to s d (m - 1))) k
       (without_same _ (refs_to t e (n - 1)) (refs_to s d (m - 1)) (ahead_rest _ (refs_to t e (n - 1)) (left_first u.0)))
 
   -- apart
-  pub part_before : r ≡ Before → apart (refs_to t e n) (refs_to s d m) ≡ apart (refs_to t e (n - 1)) (refs_to s d m)
+  pub part_before : r ≡ Less → apart (refs_to t e n) (refs_to s d m) ≡ apart (refs_to t e (n - 1)) (refs_to s d m)
   part_before k =
       ap (λ (l : List EntityRef). apart l (refs_to s d m)) (refs_step t e n (before_some t e n s d m r h k) w.starts)
       ∙ apart_before _ (refs_to t e (n - 1)) (refs_to s d m) (before_ahead k)
 
-  pub part_after : r ≡ After → 0 < n → apart (refs_to t e n) (refs_to s d m) ≡ apart (refs_to t e n) (refs_to s d (m - 1))
+  pub part_after : r ≡ Greater → 0 < n → apart (refs_to t e n) (refs_to s d m) ≡ apart (refs_to t e n) (refs_to s d (m - 1))
   part_after k o =
       let i : 0 < n + m = omega arith in
       ap (λ (l : List EntityRef). apart (refs_to t e n) l) (refs_step s d m (after_some t e n s d m r h k w.starts i) v.starts)
       ∙ apart_after _ (refs_to t e n) (refs_to s d (m - 1)) (after_ahead k i)
 
-  pub part_same : r ≡ Same → apart (refs_to t e n) (refs_to s d m) ≡ false
+  pub part_same : r ≡ Equal → apart (refs_to t e n) (refs_to s d m) ≡ false
   part_same k = both_firsts (λ x y. apart x y ≡ false) k (apart_same _ (refs_to t e (n - 1)) (refs_to s d (m - 1)))
 
 -- ---- writing entry by entry: count are written, rest is to come
@@ -169,33 +169,38 @@ module _ (out₀ : List ℕ) (to : ℕ) (zs : List EntityRef) (out : List ℕ) (
   unfolding written
   writes_end e = record { count = let u = ap length e in let v = w.counted in omega arith; memory = rw e at w.goes }
 
--- ---- a copy
-pub record Copying (out₀ : List ℕ) (to : ℕ) (zs : List EntityRef) (t : List ℕ) (e : ℕ) (out : List ℕ) (left count : ℕ) : Type 0 where
-  pub starts : left * 2 ≤ e
+-- ---- a copy: i of n entries are written
+pub record Copying (out₀ : List ℕ) (to : ℕ) (zs : List EntityRef) (t : List ℕ) (e n : ℕ) (out : List ℕ) (i : ℕ) : Type 0 where
+  pub starts : n * 2 ≤ e
   pub ends : e ≤ length t
-  pub room : to + (count + left) * 2 ≤ length out
-  pub writes : Writes out₀ to zs out count (refs_to t e left)
+  pub within : i ≤ n
+  pub room : to + n * 2 ≤ length out
+  pub writes : Writes out₀ to zs out i (refs_to t e (n - i))
 
-pub copying_start : (out t : List ℕ) (to e n : ℕ) → n * 2 ≤ e → e ≤ length t → to + n * 2 ≤ length out → Copying out to (refs_to t e n) t e out n 0
-copying_start out t to e n a b c = record { starts = a; ends = b; room = omega arith; writes = writes_start _ _ _ }
+pub copying_start : (out t : List ℕ) (to e n : ℕ) → n * 2 ≤ e → e ≤ length t → to + n * 2 ≤ length out → Copying out to (refs_to t e n) t e n out 0
+copying_start out t to e n a b c = record { starts = a; ends = b; within = omega arith; room = c; writes = let q : n - 0 ≡ n = omega arith in rw q (writes_start _ _ _) }
 
-module _ (out₀ : List ℕ) (to : ℕ) (zs : List EntityRef) (t : List ℕ) (e : ℕ) (out : List ℕ) (left count : ℕ) where
-  pub copying_more : (out' : List ℕ) → Copying out₀ to zs t e out left count → 0 < left → out' ≡ put_ref out (to + count * 2) (ref_at t (e - left * 2))
-      → Copying out₀ to zs t e out' (left - 1) (count + 1)
-  copying_more out' i h o =
-      let st = i.starts in
-      let rm = i.room in
-      let ln = length-put_ref out (to + count * 2) (ref_at t (e - left * 2)) in
+module _ (out₀ : List ℕ) (to : ℕ) (zs : List EntityRef) (t : List ℕ) (e n : ℕ) (out : List ℕ) (i : ℕ) where
+  pub copying_more : (out' : List ℕ) → Copying out₀ to zs t e n out i → i < n → out' ≡ put_ref out (to + i * 2) (ref_at t (e - n * 2 + i * 2)) → Copying out₀ to zs t e n out' (i + 1)
+  copying_more out' c h o =
+      let st = c.starts in
+      let rm = c.room in
+      let ln = length-put_ref out (to + i * 2) (ref_at t (e - n * 2 + i * 2)) in
       let lo = ap length o in
+      let p : e - (n - i) * 2 ≡ e - n * 2 + i * 2 = omega arith in
+      let q : n - i - 1 ≡ n - (i + 1) = omega arith in
+      let k : 0 < n - i = omega arith in
+      let l : (n - i) * 2 ≤ e = omega arith in
       record {
-        starts = omega arith;
-        ends = i.ends;
+        starts = st;
+        ends = c.ends;
+        within = omega arith;
         room = omega arith;
-        writes = writes_more out₀ to zs out count _ i.writes _ _ out' (refs_step t e left h i.starts) o;
+        writes = writes_more out₀ to zs out i _ c.writes _ _ out' (rw (p, q) at (refs_step t e (n - i) k l)) o;
       }
 
-  pub copying_end : Copying out₀ to zs t e out left count → left ≤ 0 → Put out₀ to zs count out
-  copying_end i h = writes_end out₀ to zs out count _ i.writes (refs_none t e left (omega arith))
+  pub copying_end : Copying out₀ to zs t e n out i → i ≡ n → Put out₀ to zs n out
+  copying_end c h = subst (λ (r : ℕ). Put out₀ to zs r out) h (writes_end out₀ to zs out i _ c.writes (refs_none t e (n - i) (omega arith)))
 
 pub ruleset copying = (copying_start, copying_more, copying_end)
 
@@ -212,16 +217,16 @@ uniting_start out t s to e n d m a b c = record { first = a; second = b; room = 
 
 module _ (out₀ : List ℕ) (to : ℕ) (zs : List EntityRef) (t : List ℕ) (e : ℕ) (s : List ℕ) (d : ℕ) (out : List ℕ) (left new count : ℕ) (r : Order)
     (i : Uniting out₀ to zs t e s d out left new count) (h : r ≡ firsts_of (refs_to t e left) (refs_to s d new)) where
-  pub uniting_room_before : r ≡ Before → (to + count * 2 + 2 ≤ length out) × (e - left * 2 + 2 ≤ length t)
+  pub uniting_room_before : r ≡ Less → (to + count * 2 + 2 ≤ length out) × (e - left * 2 + 2 ≤ length t)
   uniting_room_before k = let u = one_before t e left s d new r h k in let v = i.room in let a = i.first.starts in let b = i.first.ends in (omega arith, omega arith)
 
-  pub uniting_room_same : r ≡ Same → (to + count * 2 + 2 ≤ length out) × (e - left * 2 + 2 ≤ length t)
+  pub uniting_room_same : r ≡ Equal → (to + count * 2 + 2 ≤ length out) × (e - left * 2 + 2 ≤ length t)
   uniting_room_same k = let u = one_same_left t e left s d new r h k i.first in let v = i.room in let a = i.first.starts in let b = i.first.ends in (omega arith, omega arith)
 
-  pub uniting_room_after : r ≡ After → 0 < left + new → (to + count * 2 + 2 ≤ length out) × (d - new * 2 + 2 ≤ length s)
+  pub uniting_room_after : r ≡ Greater → 0 < left + new → (to + count * 2 + 2 ≤ length out) × (d - new * 2 + 2 ≤ length s)
   uniting_room_after k o = let u = one_after t e left s d new r h k i.first o in let v = i.room in let a = i.second.starts in let b = i.second.ends in (omega arith, omega arith)
 
-  pub uniting_before : (out' : List ℕ) → r ≡ Before → out' ≡ put_ref out (to + count * 2) (ref_at t (e - left * 2)) → Uniting out₀ to zs t e s d out' (left - 1) new (count + 1)
+  pub uniting_before : (out' : List ℕ) → r ≡ Less → out' ≡ put_ref out (to + count * 2) (ref_at t (e - left * 2)) → Uniting out₀ to zs t e s d out' (left - 1) new (count + 1)
   uniting_before out' k o =
       let u = one_before t e left s d new r h k in
       let rm = i.room in
@@ -233,7 +238,7 @@ module _ (out₀ : List ℕ) (to : ℕ) (zs : List EntityRef) (t : List ℕ) (e 
         writes = writes_more out₀ to zs out count _ i.writes _ _ out' (sort_before t e left s d new r h i.first i.second k) o;
       }
 
-  pub uniting_same : (out' : List ℕ) → r ≡ Same → out' ≡ put_ref out (to + count * 2) (ref_at t (e - left * 2)) → Uniting out₀ to zs t e s d out' (left - 1) (new - 1) (count + 1)
+  pub uniting_same : (out' : List ℕ) → r ≡ Equal → out' ≡ put_ref out (to + count * 2) (ref_at t (e - left * 2)) → Uniting out₀ to zs t e s d out' (left - 1) (new - 1) (count + 1)
   uniting_same out' k o =
       let u = one_same_left t e left s d new r h k i.first in
       let v = one_same_right t e left s d new r h k i.first in
@@ -246,7 +251,7 @@ module _ (out₀ : List ℕ) (to : ℕ) (zs : List EntityRef) (t : List ℕ) (e 
         writes = writes_more out₀ to zs out count _ i.writes _ _ out' (sort_both t e left s d new r h i.first i.second k) o;
       }
 
-  pub uniting_after : (out' : List ℕ) → r ≡ After → 0 < left + new → out' ≡ put_ref out (to + count * 2) (ref_at s (d - new * 2)) → Uniting out₀ to zs t e s d out' left (new - 1) (count + 1)
+  pub uniting_after : (out' : List ℕ) → r ≡ Greater → 0 < left + new → out' ≡ put_ref out (to + count * 2) (ref_at s (d - new * 2)) → Uniting out₀ to zs t e s d out' left (new - 1) (count + 1)
   uniting_after out' k q o =
       let u = one_after t e left s d new r h k i.first q in
       let rm = i.room in
@@ -281,7 +286,7 @@ module _ (out₀ : List ℕ) (to : ℕ) (zs : List EntityRef) (t : List ℕ) (e 
   pub sifting_room : 0 < left → (to + count * 2 + 2 ≤ length out) × (e - left * 2 + 2 ≤ length t)
   sifting_room k = let v = i.room in let a = i.first.starts in let b = i.first.ends in (omega arith, omega arith)
 
-  pub sifting_before : (out' : List ℕ) → r ≡ Before → out' ≡ put_ref out (to + count * 2) (ref_at t (e - left * 2)) → Sifting out₀ to zs t e s d out' (left - 1) over (count + 1)
+  pub sifting_before : (out' : List ℕ) → r ≡ Less → out' ≡ put_ref out (to + count * 2) (ref_at t (e - left * 2)) → Sifting out₀ to zs t e s d out' (left - 1) over (count + 1)
   sifting_before out' k o =
       let u = one_before t e left s d over r h k in
       let rm = i.room in
@@ -293,7 +298,7 @@ module _ (out₀ : List ℕ) (to : ℕ) (zs : List EntityRef) (t : List ℕ) (e 
         writes = writes_more out₀ to zs out count _ i.writes _ _ out' (sift_before t e left s d over r h i.first i.second k) o;
       }
 
-  pub sifting_same : r ≡ Same → Sifting out₀ to zs t e s d out (left - 1) (over - 1) count
+  pub sifting_same : r ≡ Equal → Sifting out₀ to zs t e s d out (left - 1) (over - 1) count
   sifting_same k =
       let u = one_same_left t e left s d over r h k i.first in
       let v = one_same_right t e left s d over r h k i.first in
@@ -305,7 +310,7 @@ module _ (out₀ : List ℕ) (to : ℕ) (zs : List EntityRef) (t : List ℕ) (e 
         writes = writes_same out₀ to zs out count _ i.writes _ (sift_same t e left s d over r h i.first i.second k);
       }
 
-  pub sifting_after : r ≡ After → 0 < left → Sifting out₀ to zs t e s d out left (over - 1) count
+  pub sifting_after : r ≡ Greater → 0 < left → Sifting out₀ to zs t e s d out left (over - 1) count
   sifting_after k o =
       let u = one_after_left t e left s d over r h k i.first o in
       record {
@@ -332,21 +337,21 @@ pub parting_start : (t : List ℕ) (e n : ℕ) (s : List ℕ) (d m : ℕ) → Wa
 parting_start t e n s d m a b = record { first = a; second = b; goes = refl }
 
 module _ (b : Bool) (t : List ℕ) (e : ℕ) (s : List ℕ) (d left over : ℕ) (r : Order) (i : Parting b t e s d left over) (h : r ≡ firsts_of (refs_to t e left) (refs_to s d over)) where
-  pub parting_before : r ≡ Before → Parting b t e s d (left - 1) over
+  pub parting_before : r ≡ Less → Parting b t e s d (left - 1) over
   parting_before k = record {
     first = walks_next t e left (one_before t e left s d over r h k) i.first;
     second = i.second;
     goes = sym (part_before t e left s d over r h i.first i.second k) ∙ i.goes;
   }
 
-  pub parting_after : r ≡ After → 0 < left → Parting b t e s d left (over - 1)
+  pub parting_after : r ≡ Greater → 0 < left → Parting b t e s d left (over - 1)
   parting_after k o = record {
     first = i.first;
     second = walks_next s d over (one_after_left t e left s d over r h k i.first o) i.second;
     goes = sym (part_after t e left s d over r h i.first i.second k o) ∙ i.goes;
   }
 
-  pub parting_same : r ≡ Same → false ≡ b
+  pub parting_same : r ≡ Equal → false ≡ b
   parting_same k = sym (part_same t e left s d over r h i.first i.second k) ∙ i.goes
 
 pub parting_end : (b : Bool) (t : List ℕ) (e : ℕ) (s : List ℕ) (d left over : ℕ) → Parting b t e s d left over → left ≤ 0 → true ≡ b

@@ -4,12 +4,13 @@ use mathlib.Core.Bool.{Bool, true, false, ◌||◌}
 use mathlib.Core.List.{List, [], ◌∷◌, ◌++◌}
 use Prim.Native.Nat.{ℕ, zero, suc, ◌+◌, ◌-◌, ◌*◌, ◌≤◌, ◌<◌, compare, Ordering}
 use native.Mathlib.Omega.{arith}
-use lib.ListN.{get_or}
-use Rattle.rows.specs.Lists.{every, keep}
-use Rattle.rows.proofs.Bools.{clash, lt_is, eq_is, is_lt, is_eq}
-use Rattle.map.specs.Entity.{EntityRef, entity, compare_refs, same_ref, listed}
-use Rattle.changes.specs.declared.lists.Order.{Order}
-use Rattle.changes.specs.declared.lists.Order.TheVariants.{Before, Same, After}
+use Rattle.std.specs.Ordering.{nat_cmp, ordering_then}
+use Rattle.std.proofs.lemmas.Bool.Decides.{nat_tests}
+use Rattle.rows.specs.Lists.{every, keep, by_order}
+use Rattle.rows.proofs.Bools.{clash, is_lt, is_eq, is_gt}
+use Rattle.map.specs.Entity.{EntityRef, compare_refs, same_ref, listed}
+use Rattle.std.specs.declared.cmp.Ordering.TheVariants.{Less, Equal, Greater}
+use Rattle.std.specs.declared.cmp.Ordering.{Ordering as Order}
 use Rattle.changes.specs.Order.{order_of, firsts_of}
 use Rattle.changes.specs.ChangeFile.{is_before, rise_after, rising_refs, apart}
 use Rattle.changes.specs.ChangeSet.{insert_ref, sort_refs, without}
@@ -18,36 +19,23 @@ use Rattle.changes.specs.Walk.{refs_to}
 use Rattle.changes.proofs.Refs.{Earlier, order_eq, order_lt, order_gt, earlier_trans, earlier_self, same_self, same_eq, listed-append, listed_sort, rise_later, sort_rising, rising_same}
 
 -- ---- the order of two entries
-gt_is : (m n : ℕ) → n < m → compare m n ≡ Ordering.gt
-gt_is m n h = go (compare m n) refl
+nat_told : (m n : ℕ) → nat_cmp m n ≡ order_of (compare m n)
+nat_told m n = go (compare m n) refl
   where
-    go : (o : Ordering) → compare m n ≡ o → o ≡ Ordering.gt
-    go Ordering.lt e = absurd (let q = is_lt m n e in omega arith)
-    go Ordering.eq e = absurd (let q = is_eq m n e in omega arith)
-    go Ordering.gt e = refl
+    go : (o : Ordering) → compare m n ≡ o → nat_cmp m n ≡ order_of (compare m n)
+    go Ordering.lt e = let q : m < n = is_lt m n e in rw e (grind (arith, nat_tests))
+    go Ordering.eq e = let q : m ≡ n = is_eq m n e in rw e (grind (arith, nat_tests))
+    go Ordering.gt e = let q : n < m = is_gt m n e in rw e (grind (arith, nat_tests))
 
-module _ (k x l y : ℕ) where
-  pub kind_below : k < l → Before ≡ order_of (compare_refs (entity k x) (entity l y))
-  unfolding compare_refs
-  kind_below h = rw (lt_is k l h)
-
-  pub kind_above : l < k → After ≡ order_of (compare_refs (entity k x) (entity l y))
-  unfolding compare_refs
-  kind_above h = rw (gt_is k l h)
-
-  pub num_below : l ≤ k → k ≤ l → x < y → Before ≡ order_of (compare_refs (entity k x) (entity l y))
-  unfolding compare_refs
-  num_below a b h = rw (eq_is k l (omega arith), lt_is x y h)
-
-  pub num_above : l ≤ k → k ≤ l → y < x → After ≡ order_of (compare_refs (entity k x) (entity l y))
-  unfolding compare_refs
-  num_above a b h = rw (eq_is k l (omega arith), gt_is x y h)
-
-  pub both_same : l ≤ k → k ≤ l → y ≤ x → x ≤ y → Same ≡ order_of (compare_refs (entity k x) (entity l y))
-  unfolding compare_refs
-  both_same a b h g = rw (eq_is k l (omega arith), eq_is x y (omega arith))
-
-pub ruleset comparing = (kind_below, kind_above, num_below, num_above, both_same)
+-- the order that the code derives is the order of entries
+pub compared : (a b : EntityRef) → ordering_then (nat_cmp a.kind b.kind) (nat_cmp a.num b.num) ≡ order_of (compare_refs a b)
+unfolding compare_refs
+compared a b = rw (nat_told a.kind b.kind, nat_told a.num b.num) (both (compare a.kind b.kind) (compare a.num b.num))
+  where
+    both : (o p : Ordering) → ordering_then (order_of o) (order_of p) ≡ order_of (by_order o Ordering.lt p Ordering.gt)
+    both Ordering.lt p = refl
+    both Ordering.eq p = refl
+    both Ordering.gt p = refl
 
 -- ---- the step of a walk
 pub some_left : (n : ℕ) → (n ≡ 0 → ⊥) → 0 < n
@@ -66,32 +54,31 @@ unfolding refs_to refs_at
 refs_none t e n h = rw h
 
 module _ (t : List ℕ) (e n : ℕ) (s : List ℕ) (d m : ℕ) where
-  pub firsts_none : n ≡ 0 → After ≡ firsts_of (refs_to t e n) (refs_to s d m)
+  pub firsts_none : n ≡ 0 → Greater ≡ firsts_of (refs_to t e n) (refs_to s d m)
   unfolding firsts_of
   firsts_none h = rw (refs_none t e n h)
 
-  pub firsts_one : (n ≡ 0 → ⊥) → n * 2 ≤ e → m ≡ 0 → Before ≡ firsts_of (refs_to t e n) (refs_to s d m)
+  pub firsts_one : (n ≡ 0 → ⊥) → n * 2 ≤ e → m ≡ 0 → Less ≡ firsts_of (refs_to t e n) (refs_to s d m)
   unfolding firsts_of
   firsts_one p h z = rw (refs_step t e n (some_left n p) h, refs_none s d m z)
 
-  pub firsts_both : (r : Order) → (n ≡ 0 → ⊥) → n * 2 ≤ e → (m ≡ 0 → ⊥) → m * 2 ≤ d
-      → r ≡ order_of (compare_refs (entity (get_or t (e - n * 2) 0) (get_or t (e - n * 2 + 1) 0)) (entity (get_or s (d - m * 2) 0) (get_or s (d - m * 2 + 1) 0)))
+  pub firsts_both : (r : Order) (a b : EntityRef) → r ≡ order_of (compare_refs a b) → a ≡ ref_at t (e - n * 2) → b ≡ ref_at s (d - m * 2) → (n ≡ 0 → ⊥) → n * 2 ≤ e → (m ≡ 0 → ⊥) → m * 2 ≤ d
       → r ≡ firsts_of (refs_to t e n) (refs_to s d m)
-  unfolding firsts_of ref_at
-  firsts_both r p h q k u = rw (refs_step t e n (some_left n p) h, refs_step s d m (some_left m q) k) u
+  unfolding firsts_of
+  firsts_both r a b u x y p h q k = rw (refs_step t e n (some_left n p) h, refs_step s d m (some_left m q) k, ← x, ← y) u
 
 pub ruleset first = (firsts_none, firsts_one, firsts_both)
 
 -- ---- which list has a first entry, where the order tells
 module _ (t : List ℕ) (e n : ℕ) (s : List ℕ) (d m : ℕ) (r : Order) where
-  pub before_some : r ≡ firsts_of (refs_to t e n) (refs_to s d m) → r ≡ Before → 1 ≤ n
+  pub before_some : r ≡ firsts_of (refs_to t e n) (refs_to s d m) → r ≡ Less → 1 ≤ n
   before_some h k = go n refl
     where
       go : (i : ℕ) → n ≡ i → 1 ≤ i
       go zero z = let q : ◌≡◌ {A = ℕ} 0 1 = cc (firsts_none t e n s d m z) in absurd (omega arith)
       go (suc i) z = omega arith
 
-  pub same_some : r ≡ firsts_of (refs_to t e n) (refs_to s d m) → r ≡ Same → n * 2 ≤ e → (1 ≤ n) × (1 ≤ m)
+  pub same_some : r ≡ firsts_of (refs_to t e n) (refs_to s d m) → r ≡ Equal → n * 2 ≤ e → (1 ≤ n) × (1 ≤ m)
   same_some h k w = go n m refl refl
     where
       go : (i j : ℕ) → n ≡ i → m ≡ j → (1 ≤ i) × (1 ≤ j)
@@ -99,7 +86,7 @@ module _ (t : List ℕ) (e n : ℕ) (s : List ℕ) (d m : ℕ) (r : Order) where
       go (suc i) zero z y = let q : ◌≡◌ {A = ℕ} 0 1 = cc (firsts_one t e n s d m (λ u. omega arith) w y) in absurd (omega arith)
       go (suc i) (suc j) z y = (omega arith, omega arith)
 
-  pub after_some : r ≡ firsts_of (refs_to t e n) (refs_to s d m) → r ≡ After → n * 2 ≤ e → 0 < n + m → 1 ≤ m
+  pub after_some : r ≡ firsts_of (refs_to t e n) (refs_to s d m) → r ≡ Greater → n * 2 ≤ e → 0 < n + m → 1 ≤ m
   after_some h k w o = go n m refl refl
     where
       go : (i j : ℕ) → n ≡ i → m ≡ j → 1 ≤ j
@@ -111,7 +98,7 @@ module _ (t : List ℕ) (e n : ℕ) (s : List ℕ) (d m : ℕ) (r : Order) where
 abbrev pub Ahead : EntityRef → List EntityRef → Type 0
 Ahead x zs = (b : EntityRef) → listed zs b ≡ true → Earlier x b
 
-is_before_lem : (a b : EntityRef) → Before ≡ order_of (compare_refs a b) → Earlier a b
+is_before_lem : (a b : EntityRef) → Less ≡ order_of (compare_refs a b) → Earlier a b
 is_before_lem a b h = go (compare_refs a b) refl
   where
     go : (o : Ordering) → compare_refs a b ≡ o → Earlier a b
@@ -119,7 +106,7 @@ is_before_lem a b h = go (compare_refs a b) refl
     go Ordering.eq e = let q : ◌≡◌ {A = ℕ} 0 1 = cc (rw e at h) in absurd (omega arith)
     go Ordering.gt e = let q : ◌≡◌ {A = ℕ} 0 1 = cc (rw e at h) in absurd (omega arith)
 
-is_after : (a b : EntityRef) → After ≡ order_of (compare_refs a b) → Earlier b a
+is_after : (a b : EntityRef) → Greater ≡ order_of (compare_refs a b) → Earlier b a
 is_after a b h = go (compare_refs a b) refl
   where
     go : (o : Ordering) → compare_refs a b ≡ o → Earlier b a
@@ -127,7 +114,7 @@ is_after a b h = go (compare_refs a b) refl
     go Ordering.eq e = let q : ◌≡◌ {A = ℕ} 0 1 = cc (rw e at h) in absurd (omega arith)
     go Ordering.gt e = order_gt a b e
 
-pub is_same : (a b : EntityRef) → Same ≡ order_of (compare_refs a b) → a ≡ b
+pub is_same : (a b : EntityRef) → Equal ≡ order_of (compare_refs a b) → a ≡ b
 is_same a b h = go (compare_refs a b) refl
   where
     go : (o : Ordering) → compare_refs a b ≡ o → a ≡ b
@@ -147,12 +134,12 @@ pub ahead_rest : (x : EntityRef) (xs : List EntityRef) → rising_refs (x ∷ xs
 unfolding rising_refs
 ahead_rest x xs r b k = rise_later x b xs r k
 
-pub ahead_right : (x : EntityRef) (xs ys : List EntityRef) → Before ≡ firsts_of (x ∷ xs) ys → rising_refs ys ≡ true → Ahead x ys
+pub ahead_right : (x : EntityRef) (xs ys : List EntityRef) → Less ≡ firsts_of (x ∷ xs) ys → rising_refs ys ≡ true → Ahead x ys
 unfolding firsts_of rising_refs listed
 ahead_right x xs [] h r b k = clash k refl
 ahead_right x xs (y ∷ ys) h r b k = ahead_cons x y ys (is_before_lem x y h) r b k
 
-pub ahead_left : (y : EntityRef) (xs ys : List EntityRef) → After ≡ firsts_of xs (y ∷ ys) → rising_refs xs ≡ true → Ahead y xs
+pub ahead_left : (y : EntityRef) (xs ys : List EntityRef) → Greater ≡ firsts_of xs (y ∷ ys) → rising_refs xs ≡ true → Ahead y xs
 unfolding firsts_of rising_refs listed
 ahead_left y [] ys h r b k = clash k refl
 ahead_left y (x ∷ xs) ys h r b k = ahead_cons y x xs (is_after x y h) r b k

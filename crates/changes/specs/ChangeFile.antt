@@ -1,9 +1,7 @@
 -- The change set file, and what it is to be a change set.
 use Prim.Native.Nat.{ℕ, zero, suc, Ordering}
-use Rattle.std.specs.Prelude.{◌≡◌, refl, Bool, true, false, not, ◌&&◌, List, [], ◌∷◌, ltb}
-use Rattle.std.proofs.Math.Option.{Option, none, some}
+use Rattle.std.specs.Prelude.{◌≡◌, refl, Bool, true, false, not, ◌&&◌, List, [], ◌∷◌, ltb, Option, None, Some}
 use Rattle.rows.specs.Lists.{every}
-use Rattle.codec.specs.Format
 use Rattle.codec.specs.Format.{Format, ◌⊗◌, via, only, tagged, nothing, no_true}
 use Rattle.codec.specs.Number.{number}
 use Rattle.codec.specs.Items.{below, list}
@@ -58,8 +56,8 @@ abouts zero = nothing
 abouts (suc k) = number
 
 abbrev pub to_about : (k : ℕ) → About k → Option EntityRef
-to_about zero x = none
-to_about (suc k) n = some (record { kind = suc k; num = n })
+to_about zero x = None
+to_about (suc k) n = Some (record { kind = suc k; num = n })
 
 -- no file has a 9 there, nor a 0 with a number
 abbrev pub of_kind : ℕ → ℕ → (k : ℕ) × About k
@@ -67,21 +65,21 @@ of_kind zero n = (9, n)
 of_kind (suc k) n = (suc k, n)
 
 abbrev pub of_about : Option EntityRef → (k : ℕ) × About k
-of_about none = (0, tt)
-of_about (some a) = of_kind a.kind a.num
+of_about None = (0, tt)
+of_about (Some a) = of_kind a.kind a.num
 
 pub about_there : (k : ℕ) (x : About k) → of_about (to_about k x) ≡ (k, x)
 about_there zero x = refl
 about_there (suc k) x = refl
 
-pub kind_back : (k n : ℕ) → (tagged (below 9) abouts).fits (of_kind k n) ≡ true → to_about (of_kind k n).0 (of_kind k n).1 ≡ some (record { kind = k; num = n })
+pub kind_back : (k n : ℕ) → (tagged (below 9) abouts).fits (of_kind k n) ≡ true → to_about (of_kind k n).0 (of_kind k n).1 ≡ Some (record { kind = k; num = n })
 unfolding tagged below only number
 kind_back zero n h = absurd (no_true h)
 kind_back (suc k) n h = refl
 
 pub about_back : (o : Option EntityRef) → (tagged (below 9) abouts).fits (of_about o) ≡ true → to_about (of_about o).0 (of_about o).1 ≡ o
-about_back none h = refl
-about_back (some a) h = kind_back a.kind a.num h
+about_back None h = refl
+about_back (Some a) h = kind_back a.kind a.num h
 
 unfoldable pub about : Format (Option EntityRef)
 about = via (tagged (below 9) abouts) (λ p. to_about p.0 p.1) of_about (λ p _. about_there p.0 p.1) about_back

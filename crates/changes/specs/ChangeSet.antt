@@ -1,6 +1,5 @@
 -- Change sets, `normalize` and the fold: edit/mod.rs.
-use Rattle.std.specs.Prelude.{ℕ, not, List, [], ◌∷◌, ◌++◌, length}
-use Rattle.std.proofs.Math.Option.{Option}
+use Rattle.std.specs.Prelude.{ℕ, not, List, [], ◌∷◌, ◌++◌, length, Option}
 use Rattle.rows.specs.Lists.{keep, by_order}
 use Rattle.map.specs.Entity.{EntityRef, compare_refs, listed, open_entity}
 use Rattle.changes.specs.declared.Tally.{Tally}

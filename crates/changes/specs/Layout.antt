@@ -1,7 +1,6 @@
 -- The change set that a list of words stands for, laid out as docs/TABLES.md says. Counts are taken as they stand, so a list whose count is past its room
 -- stands for a list of that length, and that is no set.
-use Rattle.std.specs.Prelude.{ℕ, zero, suc, ◌+◌, ◌*◌, Bool, ◌&&◌, cond, List, [], ◌∷◌, eqb, length, get_or}
-use Rattle.std.proofs.Math.Option.{Option, none, some}
+use Rattle.std.specs.Prelude.{ℕ, zero, suc, ◌+◌, ◌*◌, Bool, ◌&&◌, cond, List, [], ◌∷◌, eqb, length, get_or, Option, None, Some}
 use Rattle.refusal.specs.Answer.{Answer, refused}
 use Rattle.map.specs.Entity.{EntityRef, entity}
 use Rattle.changes.specs.ChangeSet.{Warning, warning, ChangeSet}
@@ -37,8 +36,8 @@ refs_at w p (suc n) = ref_at w p ∷ refs_at w (p + 2) n
 -- ---- warnings: code, kind and number; kind 0 stands alone
 
 abbrev pub about_of : ℕ → ℕ → Option EntityRef
-about_of zero n = none
-about_of (suc k) n = some (entity (suc k) n)
+about_of zero n = None
+about_of (suc k) n = Some (entity (suc k) n)
 
 unfoldable pub warning_at : List ℕ → ℕ → Warning
 warning_at w p = warning (get_or w p 0) (about_of (get_or w (p + 1) 0) (get_or w (p + 2) 0))

@@ -4,3 +4,5 @@ pub mod Running
 pub mod Order
 pub mod Layout
 pub mod Walk
+pub mod Listed
+pub mod Kinds

@@ -1,6 +1,6 @@
 -- What a call is lent: the map, its running fold and the fold's tally. Which folds are refused, and the fold call.
 use Rattle.std.specs.Prelude.{ℕ, Bool, not, ◌&&◌, List, [], eqb, ltb, leb, length}
-use Rattle.refusal.specs.Answer.{Answer, done, ◌>>=◌, ◌>>◌, refuse_when}
+use Rattle.refusal.specs.Answer.{Answer, done, ◌>>◌, refuse_when}
 use Rattle.rows.specs.Lists.{every, no_entries}
 use Rattle.map.specs.Record.{Map}
 use Rattle.map.specs.Entity.{EntityRef, has}

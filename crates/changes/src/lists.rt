@@ -1,115 +1,130 @@
-// Lists of entries in flat slices. An entry is two words, kind and number. A list that is walked is given by the word
-// at which it ends and by how many of its entries are left: so a walk has one number to keep.
-ghost use Rattle.std.specs.Prelude.{◌≡◌, ◌&&◌, ◌+◌, ◌*◌, ◌≤◌, ◌++◌, length};
-ghost use Rattle.map.specs.Entity.{entity, compare_refs};
+// Lists of entries in flat slices. An entry is two words, kind and number. A list that is walked keeps the word at which
+// it ends, and how many of its entries are left: so a walk has one number to keep. Each step of a walk changes the list,
+// so what is known of it (Stands, Walked) is asked for by name and not kept in the type, where each step would owe it.
+// What is written goes into `out` from word `to` on, and each contract says that the other words stay: with a slice from
+// `to` on each caller would have to show that, and be no plainer.
+ghost use Rattle.std.specs.Prelude.{◌≡◌, ◌&&◌, ◌+◌, ◌-◌, ◌*◌, ◌≤◌, ◌<◌, ◌++◌, length};
+ghost use Rattle.map.specs.Entity.{compare_refs};
 ghost use Rattle.changes.specs.Order.{order_of, firsts_of};
 ghost use Rattle.changes.specs.ChangeSet.{sort_refs, without};
 ghost use Rattle.changes.specs.ChangeFile.{is_before, entry, entries, apart};
 ghost use Rattle.changes.specs.Layout.{list_words, ref_at, refs_at};
-ghost use Rattle.changes.specs.Walk.{refs_to, Walks, put_ref, written, Put};
+ghost use Rattle.changes.specs.Walk.{Walks, put_ref, Put};
+ghost use Rattle.changes.specs.Listed.{ref_of, refs_of, Stands, Walked};
 
 use crate::layout;
+use std::cmp::Ordering;
 
-#[derive(Drop)]
-pub enum Order {
-    Before,
-    Same,
-    After,
+// Entries stand in the order of their kinds, then of their numbers. A table may have any number as a kind: `follows` tells.
+#[derive(Clone, Copy, PartialEq, Eq, PartialOrd, Ord)]
+pub struct Entry {
+    pub kind: u64,
+    pub number: u64,
 }
 
-// How entry (k, x) stands to entry (l, y): by kind, then number.
-pub fn compare(k: u64, x: u64, l: u64, y: u64) -> Order
-    ensures { result ≡ order_of (compare_refs (entity k x) (entity l y)) }
-{
-    if k < l {
-        return Order::Before;
-    }
-    if l < k {
-        return Order::After;
-    }
-    if x < y {
-        return Order::Before;
-    }
-    if y < x {
-        return Order::After;
-    }
-    Order::Same
+// What is left of a list: its last `count` entries, which end before word `end`.
+#[derive(Clone, Copy)]
+pub struct EntryList<'a> {
+    pub words: &'a [u64],
+    pub end: usize,
+    pub count: usize,
 }
 
-// How the first of the n entries that end at e in t stands to the first of the m that end at d in s.
-pub fn firsts(t: &[u64], e: usize, n: usize, s: &[u64], d: usize, m: usize) -> Order
-    requires { (n * 2 ≤ e) × (e ≤ length t.now) × (m * 2 ≤ d) × (d ≤ length s.now) }
-    ensures { result ≡ firsts_of (refs_to t.now e n) (refs_to s.now d m) }
-{
-    if n == 0 {
-        return Order::After;
+impl EntryList<'_> {
+    // The first entry of those that are left.
+    pub fn first(self) -> Entry
+        requires { Stands self × (0 < self.count) }
+        ensures { ref_of result ≡ ref_at self.entry.words.now (self.entry.end - self.entry.count * 2) }
+    {
+        entry_at(self.words, self.end - self.count * 2)
     }
-    if m == 0 {
-        return Order::Before;
-    }
-    let p = e - n * 2;
-    let q = d - m * 2;
-    compare(t[p], t[p + 1], s[q], s[q + 1])
 }
 
-// Copies the entry of t at p over the entry of out at to.
-pub fn copy_entry(out: &mut [u64], to: usize, t: &[u64], p: usize)
-    requires { (to + 2 ≤ length out.old) × (p + 2 ≤ length t.now) }
-    ensures { out.new ≡ put_ref out.old to (ref_at t.now p) }
+// The entry of t at p.
+#[tactic(auto, unfolding(crate::specs::Layout::ref_at))]
+pub fn entry_at(t: &[u64], p: usize) -> Entry
+    requires { p + 2 ≤ length t.now }
+    ensures { ref_of result ≡ ref_at t.now p }
 {
-    out[to] = t[p];
-    out[to + 1] = t[p + 1];
+    Entry {
+        kind: t[p],
+        number: t[p + 1],
+    }
+}
+
+// Writes an entry over that of out at p.
+#[tactic(auto, unfolding(crate::specs::Walk::put_ref))]
+pub fn put_entry(out: &mut [u64], p: usize, e: Entry)
+    requires { p + 2 ≤ length out.old }
+    ensures { out.new ≡ put_ref out.old p (ref_of e) }
+{
+    out[p] = e.kind;
+    out[p + 1] = e.number;
+}
+
+// How a stands to b.
+#[tactic(auto, using(crate::proofs::WalkLaws::compared))]
+pub fn compare(a: Entry, b: Entry) -> Ordering
+    ensures { result ≡ order_of (compare_refs (ref_of a) (ref_of b)) }
+{
+    a.cmp(&b)
+}
+
+// How the first entry of t stands to the first of s; an empty list comes last.
+#[tactic(auto, using(crate::proofs::WalkLaws::first))]
+pub fn firsts(t: EntryList, s: EntryList) -> Ordering
+    requires { Stands t × Stands s }
+    ensures { result ≡ firsts_of (refs_of t.entry) (refs_of s.entry) }
+{
+    if t.count == 0 {
+        return Ordering::Greater;
+    }
+    if s.count == 0 {
+        return Ordering::Less;
+    }
+    compare(t.first(), s.first())
 }
 
 // Copies a list.
-pub fn copy(out: &mut [u64], to: usize, t: &[u64], e: usize, n: usize) -> usize
-    requires { (n * 2 ≤ e) × (e ≤ length t.now) × (to + n * 2 ≤ length out.old) }
-    ensures { Put out.old to (refs_to t.now e n) result out.new }
+#[tactic(auto, using(crate::proofs::MergeLaws::copying))]
+pub fn copy(out: &mut [u64], to: usize, t: EntryList) -> usize
+    requires { Stands t × (to + t.count * 2 ≤ length out.old) }
+    ensures { Put out.old to (refs_of t.entry) result out.new }
 {
-    let mut left = n;
-    let mut count = 0;
-    while 0 < left {
-        copy_entry(out, to + count * 2, t, e - left * 2);
-        count += 1;
-        left -= 1;
+    let from = t.end - t.count * 2;
+    for i in 0..t.count {
+        put_entry(out, to + i * 2, entry_at(t.words, from + i * 2));
     }
-    count
+    t.count
 }
 
-// Writes the entries of two rising lists in rising order, each once.
-pub fn union(
-    out: &mut [u64],
-    to: usize,
-    t: &[u64],
-    e: usize,
-    n: usize,
-    s: &[u64],
-    d: usize,
-    m: usize,
-) -> usize
-    requires { Walks t.now e n × Walks s.now d m × (to + (n + m) * 2 ≤ length out.old) }
-    ensures { Put out.old to (sort_refs (refs_to t.now e n ++ refs_to s.now d m)) result out.new }
+// Writes the entries of two rising lists in rising order, each once. A walk over two lists: which of them goes on is
+// told at each turn, so no iterator over one of them says it plainer; so with the two walks below.
+#[tactic(auto, using(crate::proofs::MergeLaws::uniting))]
+pub fn union(out: &mut [u64], to: usize, t: EntryList, s: EntryList) -> usize
+    requires { Walked t × Walked s × (to + (t.count + s.count) * 2 ≤ length out.old) }
+    ensures { Put out.old to (sort_refs (refs_of t.entry ++ refs_of s.entry)) result out.new }
 {
-    let mut left = n;
-    let mut new = m;
+    let mut left = t;
+    let mut new = s;
     let mut count = 0;
-    while 0 < left + new {
+    while 0 < left.count + new.count {
         let at = to + count * 2;
-        let o = firsts(t, e, left, s, d, new);
+        let o = firsts(left, new);
         count += 1;
         match o {
-            Order::Before => {
-                copy_entry(out, at, t, e - left * 2);
-                left -= 1;
+            Ordering::Less => {
+                put_entry(out, at, left.first());
+                left.count -= 1;
             }
-            Order::Same => {
-                copy_entry(out, at, t, e - left * 2);
-                left -= 1;
-                new -= 1;
+            Ordering::Equal => {
+                put_entry(out, at, left.first());
+                left.count -= 1;
+                new.count -= 1;
             }
-            Order::After => {
-                copy_entry(out, at, s, d - new * 2);
-                new -= 1;
+            Ordering::Greater => {
+                put_entry(out, at, new.first());
+                new.count -= 1;
             }
         }
     }
@@ -117,36 +132,28 @@ pub fn union(
 }
 
 // Writes the entries of a rising list that another rising list does not have.
-pub fn sift(
-    out: &mut [u64],
-    to: usize,
-    t: &[u64],
-    e: usize,
-    n: usize,
-    s: &[u64],
-    d: usize,
-    m: usize,
-) -> usize
-    requires { Walks t.now e n × Walks s.now d m × (to + n * 2 ≤ length out.old) }
-    ensures { Put out.old to (without (refs_to t.now e n) (refs_to s.now d m)) result out.new }
+#[tactic(auto, using(crate::proofs::MergeLaws::sifting))]
+pub fn sift(out: &mut [u64], to: usize, t: EntryList, s: EntryList) -> usize
+    requires { Walked t × Walked s × (to + t.count * 2 ≤ length out.old) }
+    ensures { Put out.old to (without (refs_of t.entry) (refs_of s.entry)) result out.new }
 {
-    let mut left = n;
-    let mut over = m;
+    let mut left = t;
+    let mut over = s;
     let mut count = 0;
-    while 0 < left {
-        let o = firsts(t, e, left, s, d, over);
+    while 0 < left.count {
+        let o = firsts(left, over);
         match o {
-            Order::Before => {
-                copy_entry(out, to + count * 2, t, e - left * 2);
+            Ordering::Less => {
+                put_entry(out, to + count * 2, left.first());
                 count += 1;
-                left -= 1;
+                left.count -= 1;
             }
-            Order::Same => {
-                left -= 1;
-                over -= 1;
+            Ordering::Equal => {
+                left.count -= 1;
+                over.count -= 1;
             }
-            Order::After => {
-                over -= 1;
+            Ordering::Greater => {
+                over.count -= 1;
             }
         }
     }
@@ -154,48 +161,43 @@ pub fn sift(
 }
 
 // Whether two rising lists have no entry in common.
-pub fn are_apart(t: &[u64], e: usize, n: usize, d: usize, m: usize) -> bool
-    requires { Walks t.now e n × Walks t.now d m }
-    ensures { result ≡ apart (refs_to t.now e n) (refs_to t.now d m) }
+#[tactic(auto, using(crate::proofs::MergeLaws::parting))]
+pub fn are_apart(t: EntryList, s: EntryList) -> bool
+    requires { Walked t × Walked s }
+    ensures { result ≡ apart (refs_of t.entry) (refs_of s.entry) }
 {
-    let mut left = n;
-    let mut over = m;
-    while 0 < left {
-        let o = firsts(t, e, left, t, d, over);
+    let mut left = t;
+    let mut over = s;
+    while 0 < left.count {
+        let o = firsts(left, over);
         match o {
-            Order::Before => {
-                left -= 1;
+            Ordering::Less => {
+                left.count -= 1;
             }
-            Order::Same => {
+            Ordering::Equal => {
                 return false;
             }
-            Order::After => {
-                over -= 1;
+            Ordering::Greater => {
+                over.count -= 1;
             }
         }
     }
     true
 }
 
-// Whether (l, y) is an entry, and comes after (k, x).
-pub fn follows(k: u64, x: u64, l: u64, y: u64) -> bool
-    ensures { result ≡ (is_before (compare_refs (entity k x) (entity l y)) && entry.fits (entity l y)) }
+// Whether `next` is an entry, and comes after `last`.
+#[tactic(auto, using(crate::proofs::EntryLaws::following))]
+pub fn follows(last: Entry, next: Entry) -> bool
+    ensures { result ≡ (is_before (compare_refs (ref_of last) (ref_of next)) && entry.fits (ref_of next)) }
 {
-    if l == 0 {
+    if next.kind == 0 || 8 < next.kind {
         return false;
     }
-    if 8 < l {
-        return false;
-    }
-    let o = compare(k, x, l, y);
-    match o {
-        Order::Before => true,
-        Order::Same => false,
-        Order::After => false,
-    }
+    compare(last, next).is_lt()
 }
 
-// Whether the n entries from p on are a list of a change set.
+// Whether the n entries from p on are a list of a change set. The n is a count that stands in a table: any number.
+#[tactic(auto, using(crate::proofs::EntryLaws::checking))]
 pub fn entries_ok(t: &[u64], p: usize, n: usize) -> bool
     requires { p + list_words ≤ length t.now }
     ensures { result ≡ entries.fits (refs_at t.now p n) }
@@ -203,20 +205,13 @@ pub fn entries_ok(t: &[u64], p: usize, n: usize) -> bool
     if layout::ENTRIES < n {
         return false;
     }
-    let e = p + n * 2;
-    let mut left = n;
-    let mut k = 0;
-    let mut x = 0;
-    while 0 < left {
-        let q = e - left * 2;
-        let l = t[q];
-        let y = t[q + 1];
-        if !follows(k, x, l, y) {
+    let mut last = Entry { kind: 0, number: 0 };
+    for i in 0..n {
+        let next = entry_at(t, p + i * 2);
+        if !follows(last, next) {
             return false;
         }
-        k = l;
-        x = y;
-        left -= 1;
+        last = next;
     }
     true
 }

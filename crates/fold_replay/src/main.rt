@@ -2,258 +2,179 @@
 // Writes how many entries each fold has at its end, as created, modified and deleted, and how many answers were met.
 #![tactic(auto)]
 
-use changes::layout;
-use codec::Number;
-use sets::Folded;
+use changes::{SetList, layout};
+use refusal::Refusal;
+use sample_text::{number_at, word_at};
+use std::fmt::Write;
+use std::io;
 
-// The descriptor that programs print to.
-const STDOUT_FILENO: i32 = 1;
+// The lists of a change set.
+const LISTS: [SetList; 3] = [SetList::Created, SetList::Modified, SetList::Deleted];
 
+// A table of a change set.
+type Table = [u64; layout::WORDS];
+
+// As many bytes of a set file are read.
+type Bytes = [u8; 4096];
+
+// The numbers of a set file, one after another. Where there is none it is 0, and the place stays.
 #[derive(Drop)]
-pub struct Tally {
-    pub met: u64,
-    pub missed: u64,
-    pub refused: u64,
+struct Numbers<'a> {
+    file: &'a [u8],
+    at: usize,
 }
 
-#[derive(Drop)]
-pub struct Word {
-    pub value: u64,
-    pub next: usize,
-}
-
-fn put(t: &mut [u64], i: usize, v: u64) {
-    if i < t.len() {
-        t[i] = v;
-    }
-}
-
-fn get(t: &[u64], i: usize) -> u64 {
-    if i < t.len() { t[i] } else { 0 }
-}
-
-// A number of a file. Where there is none, 0, and the place stays.
-fn number(file: &[u8], at: usize) -> Word {
-    let n = codec::read_number(file, at);
-    match n {
-        Number::Got(value, next) => Word { value, next },
-        Number::Fault => Word { value: 0, next: at },
-    }
-}
-
-// Numbers of a file, into the words from `from` up to `to`; the place after them.
-fn numbers(t: &mut [u64], from: usize, to: usize, file: &[u8], at: usize) -> usize {
-    let mut next = at;
-    let mut i = from;
-    while i < to {
-        let w = number(file, next);
-        put(t, i, w.value);
-        next = w.next;
-        i += 1;
-    }
-    next
-}
-
-// A list of entries into list l.
-fn list(t: &mut [u64], l: usize, file: &[u8], at: usize) -> usize {
-    let w = number(file, at);
-    put(t, l, w.value);
-    if 2 < l {
-        return at;
-    }
-    if 512 < w.value {
-        return at;
-    }
-    let from = layout::LISTS + l * layout::LIST;
-    numbers(t, from, from + rows::index(w.value) * 2, file, w.next)
-}
-
-// A warning into the words from i on: code, kind, and a number where the kind is not 0.
-fn warning(t: &mut [u64], i: usize, file: &[u8], at: usize) -> usize {
-    let code = number(file, at);
-    let kind = number(file, code.next);
-    put(t, i, code.value);
-    if 3553 < i {
-        return at;
-    }
-    put(t, i + 1, kind.value);
-    if kind.value == 0 {
-        return kind.next;
-    }
-    let about = number(file, kind.next);
-    put(t, i + 2, about.value);
-    about.next
-}
-
-// The warnings, as many as there are and then room that has no meaning.
-fn warnings(t: &mut [u64], file: &[u8], at: usize) {
-    let w = number(file, at);
-    put(t, 3, w.value);
-    let mut next = w.next;
-    let mut i = layout::WARNINGS_FROM;
-    while i < layout::WORDS {
-        next = warning(t, i, file, next);
-        i += 3;
-    }
-}
-
-fn read_set(t: &mut [u64], file: &[u8]) {
-    let a = list(t, 0, file, 0);
-    let b = list(t, 1, file, a);
-    let c = list(t, 2, file, b);
-    warnings(t, file, c);
-}
-
-fn same_words(a: &[u64], b: &[u64], from: usize, to: usize) -> bool {
-    let mut i = from;
-    while i < to {
-        if get(a, i) != get(b, i) {
-            return false;
+impl Numbers<'_> {
+    fn read(&mut self) -> u64 {
+        match codec::read_number(self.file, self.at) {
+            Some((value, next)) => {
+                self.at = next;
+                value
+            }
+            None => 0,
         }
-        i += 1;
-    }
-    true
-}
-
-// Whether list l of two tables is the same.
-fn same_list(a: &[u64], b: &[u64], l: usize) -> bool {
-    let n = get(a, l);
-    if n != get(b, l) {
-        return false;
-    }
-    if 2 < l {
-        return n == 0;
-    }
-    if 512 < n {
-        return false;
-    }
-    let from = layout::LISTS + l * layout::LIST;
-    same_words(a, b, from, from + rows::index(n) * 2)
-}
-
-fn same(a: &[u64], b: &[u64]) -> bool {
-    if !same_list(a, b, 0) {
-        return false;
-    }
-    if !same_list(a, b, 1) {
-        return false;
-    }
-    if !same_list(a, b, 2) {
-        return false;
-    }
-    same_list(a, b, 3)
-}
-
-// Whether the stored answer is the fold.
-fn done_as(text: &[u8], answer: usize, fold: &[u64]) -> bool {
-    let w = sample_text::name_at(text, answer);
-    if w.value != 0x646F6E65 {
-        return false;
-    }
-    let mut file = io::buffer();
-    let n = sample_text::bytes::bytes_at(text, w.next, &mut file);
-    let mut want = [0u64; 3556];
-    read_set(&mut want, &file[..n]);
-    same(&want, fold)
-}
-
-// Whether the stored answer is a refusal with this number.
-fn refused_as(text: &[u8], answer: usize, why: u64) -> bool {
-    let w = sample_text::name_at(text, answer);
-    if w.value != 0x72656675736564 {
-        return false;
-    }
-    let n = sample_text::number_at(text, w.next);
-    n.value == why
-}
-
-fn counted(t: Tally, met: bool, refused: u64) -> Tally {
-    let r = std::num::wrapping_add_u64(t.refused, refused);
-    if met {
-        return Tally {
-            met: std::num::wrapping_add_u64(t.met, 1),
-            missed: t.missed,
-            refused: r,
-        };
-    }
-    Tally {
-        met: t.met,
-        missed: std::num::wrapping_add_u64(t.missed, 1),
-        refused: r,
     }
 }
 
-// The set that stands from `at` on, taken into the fold; the answer stands from `answer` on.
-fn joined(text: &[u8], at: usize, answer: usize, fold: &mut [u64], t: Tally) -> Tally {
-    let mut file = io::buffer();
-    let n = sample_text::bytes::bytes_at(text, at, &mut file);
-    let mut set = [0u64; 3556];
-    read_set(&mut set, &file[..n]);
-    let r = sets::fold(fold, &set);
-    match r {
-        Folded::Done => counted(t, done_as(text, answer, fold), 0),
-        Folded::Refused(why) => counted(t, refused_as(text, answer, refusal::number(why)), 1),
-    }
-}
-
-// A fold is at its end: its counts are written, and it is empty again.
-fn finished(fold: &mut [u64]) {
-    io::print_decimal(STDOUT_FILENO, get(fold, 0));
-    io::write_all(STDOUT_FILENO, b" ");
-    io::print_decimal(STDOUT_FILENO, get(fold, 1));
-    io::write_all(STDOUT_FILENO, b" ");
-    io::print_decimal(STDOUT_FILENO, get(fold, 2));
-    io::write_all(STDOUT_FILENO, b"\n");
-    put(fold, 0, 0);
-    put(fold, 1, 0);
-    put(fold, 2, 0);
-}
-
-// One line: its request, with the answer in the next line.
-fn line(text: &[u8], at: usize, next: usize, fold: &mut [u64], t: Tally) -> Tally {
-    let request = sample_text::name_at(text, at);
-    // `sets`
-    if request.value == 0x73657473 {
-        if t.met != 0 {
-            finished(fold);
+// A list's count and its entries. A count past the list's room stands alone: no set has it.
+fn read_list(t: &mut Table, l: SetList, numbers: &mut Numbers) {
+    let count = numbers.read();
+    t[l.word()] = count;
+    if count <= layout::ENTRIES as u64 {
+        let from = l.begin();
+        for word in t[from..from + count as usize * 2].iter_mut() {
+            *word = numbers.read();
         }
-        return t;
     }
-    // `join`
-    if request.value == 0x6A6F696E {
-        let answer = sample_text::name_at(text, next);
-        return joined(text, request.next, answer.next, fold, t);
+}
+
+// The warnings: how many there are, then code, kind and, where the kind is not 0, a number. All room is read; what
+// stands past the last has no meaning.
+fn read_warnings(t: &mut Table, numbers: &mut Numbers) {
+    t[3] = numbers.read();
+    for warning in t[layout::WARNINGS_FROM..].chunks_exact_mut(3) {
+        if let [code, kind, number] = warning {
+            *code = numbers.read();
+            *kind = numbers.read();
+            if *kind != 0 {
+                *number = numbers.read();
+            }
+        }
     }
+}
+
+// The table of a set file that stands as a word of a line.
+fn read_set(line: &[u8], at: usize) -> Table {
+    let mut file: Bytes = [0; 4096];
+    let n = sample_text::bytes::bytes_at(line, at, &mut file);
+    let mut numbers = Numbers {
+        file: &file[..n],
+        at: 0,
+    };
+    let mut t: Table = [0; layout::WORDS];
+    for l in LISTS {
+        read_list(&mut t, l, &mut numbers);
+    }
+    read_warnings(&mut t, &mut numbers);
     t
 }
 
-fn replay(text: &[u8], fold: &mut [u64]) -> Tally {
-    let mut t = Tally {
+// The words of a list; none where it counts more entries than it has room for.
+fn words_of(t: &Table, l: SetList) -> Option<&[u64]> {
+    let count = t[l.word()];
+    if count > layout::ENTRIES as u64 {
+        return None;
+    }
+    let from = l.begin();
+    Some(&t[from..from + count as usize * 2])
+}
+
+// Whether two tables have the same lists, and no warning.
+fn same(a: &Table, b: &Table) -> bool {
+    for l in LISTS {
+        let (Some(xs), Some(ys)) = (words_of(a, l), words_of(b, l)) else {
+            return false;
+        };
+        if xs != ys {
+            return false;
+        }
+    }
+    a[3] == 0 && b[3] == 0
+}
+
+// A fold that is replayed, and how its answers were.
+#[derive(Drop)]
+struct Replay {
+    fold: Table,
+    met: u64,
+    missed: u64,
+    refused: u64,
+}
+
+impl Replay {
+    // What the stored answer says of the fold's: `done` and the fold, or `refused` and the refusal's number.
+    fn is_met(&self, answer: &[u8], folded: Result<(), Refusal>) -> bool {
+        let stored = word_at(answer, 0);
+        match (stored.value, folded) {
+            (b"done", Ok(())) => same(&read_set(answer, stored.next), &self.fold),
+            (b"refused", Err(why)) => number_at(answer, stored.next).value == why.number(),
+            _ => false,
+        }
+    }
+
+    // A set is taken into the fold.
+    fn join(&mut self, set: &Table, answer: &[u8]) {
+        let folded = sets::fold(&mut self.fold, set);
+        if folded.is_err() {
+            self.refused = self.refused.saturating_add(1);
+        }
+        if self.is_met(answer, folded) {
+            self.met = self.met.saturating_add(1);
+        } else {
+            self.missed = self.missed.saturating_add(1);
+        }
+    }
+
+    // The fold is at its end: its counts are written, and it is empty again.
+    fn finish<W: Write>(&mut self, report: &mut W) -> io::Result<()> {
+        let [created, modified, deleted, ..] = self.fold;
+        writeln!(report, "{created} {modified} {deleted}")?;
+        self.fold[0] = 0;
+        self.fold[1] = 0;
+        self.fold[2] = 0;
+        Ok(())
+    }
+}
+
+fn main(rt: HostRuntime) -> io::Result<()> {
+    let path = std::env::args(&rt)?.nth(1);
+    let text = std::fs::read(&rt, path.unwrap_or(String::new(rt.alloc())))?;
+    let mut report = String::new(rt.alloc());
+    let mut replay = Replay {
+        fold: [0; layout::WORDS],
         met: 0,
         missed: 0,
         refused: 0,
     };
-    let mut at = 0;
-    while at < text.len() {
-        let next = sample_text::line_end(text, at);
-        t = line(text, at, next, fold, t);
-        at = next;
+    // the set that is to be joined, until its answer is read
+    let mut joined = None;
+    for line in text.split(|b| *b == b'\n') {
+        let first = word_at(line, 0);
+        let rest = line.get(first.next..).unwrap_or(&[]);
+        match first.value {
+            b"sets" if replay.met != 0 => replay.finish(&mut report)?,
+            b"join" => joined = Some(read_set(rest, 0)),
+            b"=" => {
+                if let Some(set) = joined.take() {
+                    replay.join(&set, rest);
+                }
+            }
+            _ => {}
+        }
     }
-    finished(fold);
-    t
-}
-
-fn main(rt: HostRuntime) -> std::io::Result<()> {
-    let path = std::env::args(&rt)?.nth(1);
-    let text = std::fs::read(&rt, path.unwrap_or(String::new(rt.alloc())))?;
-    let mut fold = [0u64; 3556];
-    let t = replay(&text, &mut fold);
-    io::write_all(STDOUT_FILENO, b"met ");
-    io::print_decimal(STDOUT_FILENO, t.met);
-    io::write_all(STDOUT_FILENO, b"\nmissed ");
-    io::print_decimal(STDOUT_FILENO, t.missed);
-    io::write_all(STDOUT_FILENO, b"\nrefused ");
-    io::print_decimal(STDOUT_FILENO, t.refused);
-    io::write_all(STDOUT_FILENO, b"\n");
-    Ok(())
+    replay.finish(&mut report)?;
+    writeln!(report, "met {}", replay.met)?;
+    writeln!(report, "missed {}", replay.missed)?;
+    writeln!(report, "refused {}", replay.refused)?;
+    rt.print(report)
 }

@@ -7,7 +7,7 @@ use native.Mathlib.Omega.{arith}
 use lib.Dec.{eqb, ltb}
 use lib.Ieee.{Float}
 use lib.ListN.{length, get_or}
-use borrow.Author.Tests.{lt-ltb, le-ltb, eq-eqb, ne_eqb, not-true, not-false}
+use borrow.Author.Tests.{lt-ltb, le-ltb, not-true, not-false}
 use Rattle.rows.specs.Lists.{every, no_entries}
 use Rattle.rows.proofs.Bools.{parts, and_i, agree}
 use Rattle.rows.proofs.Tables.{every_if}
@@ -19,6 +19,10 @@ use Rattle.map.specs.Tables.{map_of}
 use Rattle.changes.specs.declared.Tally.{Tally}
 use Rattle.changes.specs.ChangeSet.{ChangeSet, tally_of}
 use Rattle.changes.specs.Running.{same_tally, all_below, fold_ok}
+use Rattle.changes.specs.Walk.{refs_to}
+use Rattle.changes.specs.declared.lists.EntryList.{EntryList}
+use Rattle.changes.specs.Listed.{refs_of, Stands}
+use Rattle.changes.proofs.EntryLaws.{refs_at_lem}
 use Rattle.changes.specs.Layout.{from_of, set_words, count_in, ref_at, refs_at, warnings_at, list_in, change_set_of, lists_ok_in}
 use Rattle.sets.specs.Tables.{Roomy}
 use Rattle.sets.proofs.SettleLaws.{length_in}
@@ -45,61 +49,50 @@ module _ (ws : List ℕ) (there : Bool) (k x n : ℕ) (h : n ≡ next_of ws) whe
 
 pub ruleset entry_told = (entry_high, entry_there, entry_gone)
 
--- ---- one list
-refs_first : (t : List ℕ) (p n : ℕ) → 0 < n → refs_at t p n ≡ ref_at t p ∷ refs_at t (p + 2) (n - 1)
-unfolding refs_at
-refs_first t p zero h = absurd (omega arith)
-refs_first t p (suc n) h = let r : suc n - 1 ≡ n = omega arith in rw r
+-- ---- one list: i of its n entries have passed
+pub record Passing (ws : List ℕ) (there : Bool) (t : List ℕ) (e n i : ℕ) : Type 0 where
+  pub starts : n * 2 ≤ e
+  pub ends : e ≤ length t
+  pub within : i ≤ n
+  pub goes : (cs : List Float) → every (stands (map_of ws cs) there) (refs_at t (e - n * 2 + i * 2) (n - i)) ≡ every (stands (map_of ws cs) there) (refs_to t e n)
 
-pub record Passing (ws : List ℕ) (there : Bool) (t : List ℕ) (p n at left : ℕ) : Type 0 where
-  pub room : at + left * 2 ≤ length t
-  pub goes : (cs : List Float) → every (stands (map_of ws cs) there) (refs_at t at left) ≡ every (stands (map_of ws cs) there) (refs_at t p n)
+pub passing_start : (ws : List ℕ) (there : Bool) (t : List ℕ) (e n : ℕ) → n * 2 ≤ e → e ≤ length t → Passing ws there t e n 0
+unfolding refs_to
+passing_start ws there t e n h k = record { starts = h; ends = k; within = omega arith; goes = λ cs. let q : e - n * 2 + 0 * 2 ≡ e - n * 2 = omega arith in let r : n - 0 ≡ n = omega arith in rw (q, r) }
 
-pub passing_start : (ws : List ℕ) (there : Bool) (t : List ℕ) (p n : ℕ) → p + n * 2 ≤ length t → Passing ws there t p n p n
-passing_start ws there t p n h = record { room = h; goes = λ cs. refl }
+module _ (ws : List ℕ) (there : Bool) (t : List ℕ) (e n i : ℕ) (c : Passing ws there t e n i) (o : i < n) (a : EntityRef) (s : a ≡ ref_at t (e - n * 2 + i * 2)) (r : Bool) (h : EntryTested ws there a r) where
+  turn : (cs : List Float) → (r && every (stands (map_of ws cs) there) (refs_at t (e - n * 2 + (i + 1) * 2) (n - (i + 1)))) ≡ every (stands (map_of ws cs) there) (refs_to t e n)
+  unfolding every refs_at
+  turn cs =
+      let q : n - i ≡ suc (n - (i + 1)) = omega arith in
+      let u : e - n * 2 + i * 2 + 2 ≡ e - n * 2 + (i + 1) * 2 = omega arith in
+      rw (h.answer cs, s) (rw (q, u) at (c.goes cs))
 
-module _ (ws : List ℕ) (there : Bool) (t : List ℕ) (p n at left : ℕ) (r : Bool) (i : Passing ws there t p n at left) (o : 0 < left)
-    (h : EntryTested ws there (entity (get_or t at 0) (get_or t (at + 1) 0)) r) where
-  turn : (cs : List Float) → (r && every (stands (map_of ws cs) there) (refs_at t (at + 2) (left - 1))) ≡ every (stands (map_of ws cs) there) (refs_at t p n)
-  unfolding every ref_at
-  turn cs = rw (h.answer cs) (rw (refs_first t at left o) at (i.goes cs))
-
-  pub passing_stop : not r ≡ true → ListTested ws there (refs_at t p n) false
+  pub passing_stop : not r ≡ true → ListTested ws there (refs_to t e n) false
   passing_stop z = record { answer = λ cs. rw (not-true r z) at (turn cs) }
 
-  pub passing_more : not r ≡ false → Passing ws there t p n (at + 2) (left - 1)
-  passing_more z = record { room = let u = i.room in omega arith; goes = λ cs. rw (not-false r z) at (turn cs) }
+  pub passing_more : not r ≡ false → Passing ws there t e n (i + 1)
+  passing_more z = record { starts = c.starts; ends = c.ends; within = omega arith; goes = λ cs. rw (not-false r z) at (turn cs) }
 
-pub passing_end : (ws : List ℕ) (there : Bool) (t : List ℕ) (p n at left : ℕ) → Passing ws there t p n at left → left ≤ 0 → ListTested ws there (refs_at t p n) true
+pub passing_end : (ws : List ℕ) (there : Bool) (t : List ℕ) (e n i : ℕ) → Passing ws there t e n i → i ≡ n → ListTested ws there (refs_to t e n) true
 unfolding every refs_at
-passing_end ws there t p n at left i h = let q : left ≡ 0 = omega arith in record { answer = λ cs. rw q at (i.goes cs) }
+passing_end ws there t e n i c h = let q : n - i ≡ 0 = omega arith in record { answer = λ cs. rw q at (c.goes cs) }
 
 pub ruleset passing = (passing_start, passing_stop, passing_more, passing_end)
 
-pub list_room_lem : (f : List ℕ) (l n : ℕ) → Roomy f → l < 3 → n ≡ get_or f l 0 → from_of l + n * 2 ≤ length f
-unfolding count_in
-list_room_lem f l n r h e = let u = r.few l h in let v = r.size in omega arith
+-- a list of a table, as the code gives it
+module _ (f : List ℕ) (l : ℕ) (h : Roomy f) (k : l < 3) (x : EntryList) (w : x.words.now ≡ f) (e : x.end ≡ from_of l + count_in f l * 2) (n : x.count ≡ count_in f l) where
+  pub list_stands : Stands x
+  list_stands = let u = h.few l k in let v = h.size in let z = ap length w in (omega arith, omega arith)
 
-pub list_told : (ws : List ℕ) (there : Bool) (f : List ℕ) (l n : ℕ) (r : Bool) → n ≡ get_or f l 0 → ListTested ws there (refs_at f (from_of l) n) r → ListTested ws there (list_in f l) r
-unfolding list_in count_in
-list_told ws there f l n r e h = record { answer = λ cs. rw e at (h.answer cs) }
+  pub list_told : (ws : List ℕ) (there : Bool) (r : Bool) → ListTested ws there (refs_of x) r → ListTested ws there (list_in f l) r
+  unfolding list_in
+  list_told ws there r q = rw (w, e, n, refs_at_lem f (from_of l) (count_in f l)) at q
 
 -- ---- the tally
-module _ (f : List ℕ) (t : Tally) where
-  counts : same_tally t (tally_of (change_set_of f)) ≡ (eqb t.created (get_or f 0 0) && eqb t.modified (get_or f 1 0) && eqb t.deleted (get_or f 2 0))
-  unfolding same_tally tally_of change_set_of
-  counts = rw (length_in f 0, length_in f 1, length_in f 2) (unfold count_in in refl)
-
-  pub tally_created : (t.created ≡ get_or f 0 0 → ⊥) → false ≡ same_tally t (tally_of (change_set_of f))
-  tally_created n = sym (counts ∙ rw (ne_eqb t.created (get_or f 0 0) n))
-
-  pub tally_modified : t.created ≡ get_or f 0 0 → (t.modified ≡ get_or f 1 0 → ⊥) → false ≡ same_tally t (tally_of (change_set_of f))
-  tally_modified e n = sym (counts ∙ rw (eq-eqb t.created (get_or f 0 0) e, ne_eqb t.modified (get_or f 1 0) n))
-
-  pub tally_deleted : t.created ≡ get_or f 0 0 → t.modified ≡ get_or f 1 0 → eqb t.deleted (get_or f 2 0) ≡ same_tally t (tally_of (change_set_of f))
-  tally_deleted e d = sym (counts ∙ rw (eq-eqb t.created (get_or f 0 0) e, eq-eqb t.modified (get_or f 1 0) d))
-
-pub ruleset tally_told = (tally_created, tally_modified, tally_deleted)
+pub counts : (f : List ℕ) (t : Tally) → same_tally t (tally_of (change_set_of f)) ≡ (eqb t.created (get_or f 0 0) && eqb t.modified (get_or f 1 0) && eqb t.deleted (get_or f 2 0))
+unfolding same_tally tally_of change_set_of
+counts f t = rw (length_in f 0, length_in f 1, length_in f 2) (unfold count_in in refl)
 
 -- ---- the fold
 both : {A : Type 0} (p q : A → Bool) (xs : List A) → every p xs ≡ true → every q xs ≡ true → every (λ a. p a && q a) xs ≡ true

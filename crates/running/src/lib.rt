@@ -1,78 +1,68 @@
-// The running fold against its map.
+// The running fold against its map, both in tables that C lends as slices: what is known of them stands in the contracts.
 #![tactic(auto)]
 
-ghost use Rattle.std.specs.Prelude.{◌≡◌, ◌+◌, ◌*◌, ◌≤◌, ◌<◌, length};
+ghost use Rattle.std.specs.Prelude.{◌≡◌, length};
 ghost use Rattle.store.specs.Layout.{SizedWords};
-ghost use Rattle.map.specs.Entity.{entity};
 ghost use Rattle.changes.specs.Running.{same_tally};
 ghost use Rattle.changes.specs.ChangeSet.{tally_of};
-ghost use Rattle.changes.specs.Layout.{set_words, refs_at, list_in, change_set_of};
+ghost use Rattle.changes.specs.Kinds.{list_number};
+ghost use Rattle.changes.specs.Layout.{set_words, list_in, change_set_of};
+ghost use Rattle.changes.specs.Listed.{ref_of, refs_of, Stands};
 ghost use Rattle.sets.specs.Tables.{Roomy};
 ghost use Rattle.running.specs.Tested.{EntryTested, ListTested, FoldTested};
 
-use changes::{Tally, layout};
+use changes::lists::{Entry, EntryList, entry_at};
+use changes::{SetList, Tally};
 
-// Whether record (k, x) has a number below the next, and is on the map, or is not, as `there` says.
-pub fn entry_ok(words: &[u64], there: bool, k: u64, x: u64) -> bool
+// Whether record e has a number below the next, and is on the map, or is not, as `there` asks: it is no mark of whether
+// other values count, and created and deleted entries are asked by one walk.
+#[tactic(auto, using(crate::proofs::TestLaws::entry_told))]
+pub fn entry_ok(words: &[u64], there: bool, e: Entry) -> bool
     requires { SizedWords words.now }
-    ensures { EntryTested words.now there (entity k x) result }
+    ensures { EntryTested words.now there (ref_of e) result }
 {
-    if store::next(words) <= x {
+    if store::next(words) <= e.number {
         return false;
     }
-    if there {
-        return map::lookup::has(words, k, x);
-    }
-    !map::lookup::has(words, k, x)
+    let found = map::lookup::has(words, e.kind, e.number);
+    if there { found } else { !found }
 }
 
-// Whether each of the n entries from word p on is so.
-pub fn entries_ok(words: &[u64], there: bool, t: &[u64], p: usize, n: usize) -> bool
-    requires { SizedWords words.now × (p + n * 2 ≤ length t.now) }
-    ensures { ListTested words.now there (refs_at t.now p n) result }
+// Whether each entry of a list is so.
+#[tactic(auto, using(crate::proofs::TestLaws::passing))]
+pub fn entries_ok(words: &[u64], there: bool, t: EntryList) -> bool
+    requires { SizedWords words.now × Stands t }
+    ensures { ListTested words.now there (refs_of t.entry) result }
 {
-    let mut left = n;
-    let mut at = p;
-    while 0 < left {
-        if !entry_ok(words, there, t[at], t[at + 1]) {
+    let from = t.end - t.count * 2;
+    for i in 0..t.count {
+        if !entry_ok(words, there, entry_at(t.words, from + i * 2)) {
             return false;
         }
-        at += 2;
-        left -= 1;
     }
     true
 }
 
 // Whether each entry of list l is so.
-pub fn list_ok(words: &[u64], there: bool, f: &[u64], l: usize) -> bool
-    requires { SizedWords words.now × Roomy f.now × (l < 3) }
-    ensures { ListTested words.now there (list_in f.now l) result }
+pub fn list_ok(words: &[u64], there: bool, f: &[u64], l: SetList) -> bool
+    requires { SizedWords words.now × Roomy f.now }
+    ensures { ListTested words.now there (list_in f.now (list_number l)) result }
 {
-    entries_ok(
-        words,
-        there,
-        f,
-        layout::LISTS + l * layout::LIST,
-        rows::index(f[l]),
-    )
+    entries_ok(words, there, sets::list(f, l))
 }
 
 // Whether the tally is the fold's three counts.
+#[tactic(auto, using(crate::proofs::TestLaws::counts))]
 pub fn tally_ok(f: &[u64], tally: Tally) -> bool
     requires { length f.now ≡ set_words }
     ensures { result ≡ same_tally tally (tally_of (change_set_of f.now)) }
 {
-    if tally.created != f[0] {
-        return false;
-    }
-    if tally.modified != f[1] {
-        return false;
-    }
-    tally.deleted == f[2]
+    tally.created == f[0] && tally.modified == f[1] && tally.deleted == f[2]
 }
 
 // Whether the fold is a running fold of the map: the lists of a set, no warning, the tally its three counts, numbers
 // below the next number, created and modified records on the map, deleted ones not.
+#[tactic(auto, using(crate::proofs::TestLaws::fold_told))]
 pub fn fold_ok(words: &[u64], fold: &[u64], tally: Tally) -> bool
     requires { SizedWords words.now }
     ensures { FoldTested words.now fold.now tally result }
@@ -86,11 +76,11 @@ pub fn fold_ok(words: &[u64], fold: &[u64], tally: Tally) -> bool
     if !tally_ok(fold, tally) {
         return false;
     }
-    if !list_ok(words, true, fold, 0) {
+    if !list_ok(words, true, fold, SetList::Created) {
         return false;
     }
-    if !list_ok(words, true, fold, 1) {
+    if !list_ok(words, true, fold, SetList::Modified) {
         return false;
     }
-    list_ok(words, false, fold, 2)
+    list_ok(words, false, fold, SetList::Deleted)
 }

@@ -1,7 +1,7 @@
 -- Which warnings are those of a set, one by one; and when a table is one of a set.
 use mathlib.Core.Path.{◌≡◌, refl, sym, ap, ◌∙◌}
 use mathlib.Core.Bool.{Bool, true, false, not, ◌&&◌}
-use mathlib.Core.Option.{Option, none, some}
+use Rattle.std.specs.Prelude.{Option, None, Some}
 use mathlib.Core.List.{List, [], ◌∷◌}
 use Prim.Native.Nat.{ℕ, zero, suc, ◌+◌, ◌-◌, ◌*◌, ◌^◌, ◌≤◌, ◌<◌}
 use native.Mathlib.Omega.{arith}
@@ -16,7 +16,7 @@ use Rattle.codec.proofs.Fits.{list_each, list_few, list_fits}
 use Rattle.map.specs.Entity.{EntityRef, entity}
 use Rattle.changes.specs.ChangeSet.{Warning, warning, ChangeSet}
 use Rattle.changes.specs.ChangeFile.{max_warnings, kinds, about, warning_form, warnings, entries, change_file, is_set, lists_ok, lists_apart}
-use Rattle.changes.specs.Layout.{from_of, set_words, count_in, about_of, warning_at, warnings_at, change_set_of, lists_ok_in, is_set_in}
+use Rattle.changes.specs.Layout.{from_of, set_words, count_in, about_of, ref_at, warning_at, warnings_at, change_set_of, lists_ok_in, is_set_in}
 use Rattle.changes.proofs.Entries.{Warned, one_warned, bare_warned}
 use Rattle.sets.proofs.TableLaws.{ok_size_of, ok_lists}
 
@@ -54,8 +54,8 @@ module _ (c k x : ℕ) where
       first w q = let g = q.good in sym (search (parts, g))
 
       go : (j : ℕ) → k ≡ j → true ≡ warning_form.fits (warning c (about_of j x))
-      go zero e = first (warning c none) (bare_warned c coded)
-      go (suc j) e = first (warning c (some (entity (suc j) x))) (one_warned c (suc j) x coded (and_i _ _ (lt-ltb 0 (suc j) (omega arith)) (lt-ltb (suc j) 9 (omega arith))) l)
+      go zero e = first (warning c None) (bare_warned c coded)
+      go (suc j) e = first (warning c (Some (entity (suc j) x))) (one_warned c (suc j) x coded (and_i _ _ (lt-ltb 0 (suc j) (omega arith)) (lt-ltb (suc j) 9 (omega arith))) l)
 
 pub ruleset warning_told = (no_code, high_code, high_kind, good_warning)
 
@@ -65,33 +65,37 @@ unfolding warnings_at
 length-warnings t p zero = refl
 length-warnings t p (suc n) = ap suc (length-warnings t (p + 3) n)
 
-pub warnings_step : (t : List ℕ) (p n : ℕ) → 0 < n → warnings_at t p n ≡ warning_at t p ∷ warnings_at t (p + 3) (n - 1)
-unfolding warnings_at
-warnings_step t p zero h = absurd (omega arith)
-warnings_step t p (suc n) h = let r : suc n - 1 ≡ n = omega arith in rw r
-
 pub too_many : (t : List ℕ) (n : ℕ) → max_warnings < n → false ≡ warnings.fits (warnings_at t (from_of 3) n)
 unfolding warnings
 too_many t n h = sym (not_true_false _ (λ k. let u = leb-true (length (warnings_at t (from_of 3) n)) max_warnings (list_few max_warnings warning_form (warnings_at t (from_of 3) n) k) in let v = length-warnings t (from_of 3) n in omega arith))
 
-pub record Passing (b : Bool) (t : List ℕ) (at left : ℕ) : Type 0 where
-  pub room : at + left * 3 ≤ length t
-  pub goes : every warning_form.fits (warnings_at t at left) ≡ b
+-- i of n warnings have passed
+pub record Passing (b : Bool) (t : List ℕ) (n i : ℕ) : Type 0 where
+  pub size : length t ≡ set_words
+  pub few : n ≤ max_warnings
+  pub within : i ≤ n
+  pub goes : every warning_form.fits (warnings_at t (from_of 3 + i * 3) (n - i)) ≡ b
 
-pub passing_start : (t : List ℕ) (n : ℕ) → length t ≡ set_words → n ≤ max_warnings → Passing (warnings.fits (warnings_at t (from_of 3) n)) t (from_of 3) n
+pub passing_start : (t : List ℕ) (n : ℕ) → length t ≡ set_words → n ≤ max_warnings → Passing (warnings.fits (warnings_at t (from_of 3) n)) t n 0
 unfolding warnings
 passing_start t n s h = record {
-  room = omega arith;
-  goes = agree _ _
+  size = s;
+  few = h;
+  within = omega arith;
+  goes = let q : n - 0 ≡ n = omega arith in rw q (agree _ _
       (λ e. list_fits max_warnings warning_form (warnings_at t (from_of 3) n) (omega arith) (le-leb (length (warnings_at t (from_of 3) n)) max_warnings (let v = length-warnings t (from_of 3) n in omega arith)) e)
-      (λ e. list_each max_warnings warning_form (warnings_at t (from_of 3) n) e);
+      (λ e. list_each max_warnings warning_form (warnings_at t (from_of 3) n) e));
 }
 
-module _ (b : Bool) (t : List ℕ) (at left : ℕ) (r : Bool) (i : Passing b t at left) (o : 0 < left)
-    (h : r ≡ warning_form.fits (warning (get_or t at 0) (about_of (get_or t (at + 1) 0) (get_or t (at + 2) 0)))) where
-  turn : (r && every warning_form.fits (warnings_at t (at + 3) (left - 1))) ≡ b
-  unfolding every warning_at
-  turn = rw h (rw (warnings_step t at left o) at i.goes)
+module _ (b : Bool) (t : List ℕ) (n i : ℕ) (c : Passing b t n i) (o : i < n) (k : ℕ) (a : EntityRef) (e : k ≡ get_or t (from_of 3 + i * 3) 0) (s : a ≡ ref_at t (from_of 3 + i * 3 + 1)) (r : Bool)
+    (h : r ≡ warning_form.fits (warning k (about_of a.kind a.num))) where
+  turn : (r && every warning_form.fits (warnings_at t (from_of 3 + (i + 1) * 3) (n - (i + 1)))) ≡ b
+  unfolding every warnings_at warning_at ref_at
+  turn =
+      let q : n - i ≡ suc (n - (i + 1)) = omega arith in
+      let u : from_of 3 + i * 3 + 3 ≡ from_of 3 + (i + 1) * 3 = omega arith in
+      let v : from_of 3 + i * 3 + 1 + 1 ≡ from_of 3 + i * 3 + 2 = omega arith in
+      rw (h, s, e, v) (rw (q, u) at c.goes)
 
   pub passing_stop : not r ≡ true → false ≡ b
   passing_stop n = rw (no r n) at turn
@@ -100,16 +104,16 @@ module _ (b : Bool) (t : List ℕ) (at left : ℕ) (r : Bool) (i : Passing b t a
       no true z = sym z
       no false z = refl
 
-  pub passing_more : not r ≡ false → Passing b t (at + 3) (left - 1)
-  passing_more n = record { room = let u = i.room in omega arith; goes = rw (ok r n) at turn }
+  pub passing_more : not r ≡ false → Passing b t n (i + 1)
+  passing_more m = record { size = c.size; few = c.few; within = omega arith; goes = rw (ok r m) at turn }
     where
       ok : (q : Bool) → not q ≡ false → q ≡ true
       ok true z = refl
       ok false z = sym z
 
-pub passing_end : (b : Bool) (t : List ℕ) (at left : ℕ) → Passing b t at left → left ≤ 0 → true ≡ b
+pub passing_end : (b : Bool) (t : List ℕ) (n i : ℕ) → Passing b t n i → i ≡ n → true ≡ b
 unfolding every warnings_at
-passing_end b t at left i h = let q : left ≡ 0 = omega arith in rw q at i.goes
+passing_end b t n i c h = let q : n - i ≡ 0 = omega arith in rw q at c.goes
 
 pub ruleset passing = (too_many, passing_start, passing_stop, passing_more, passing_end)
 

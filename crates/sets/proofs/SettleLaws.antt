@@ -1,17 +1,19 @@
 -- Three lists united, and settled: each call's need, and what the last one leaves.
-use mathlib.Core.Path.{◌≡◌, sym, ap, ap₂, ◌∙◌}
+use mathlib.Core.Path.{◌≡◌, refl, sym, ap, ap₂, ◌∙◌}
 use mathlib.Core.List.{List, ◌++◌}
 use Prim.Native.Nat.{ℕ, ◌+◌, ◌*◌, ◌≤◌, ◌<◌}
 use native.Mathlib.Omega.{arith}
 use lib.ListN.{length, get_or, set, length-append}
 use Rattle.changes.specs.ChangeFile.{max_entries}
 use Rattle.changes.specs.ChangeSet.{sort_refs, without}
-use Rattle.changes.specs.Layout.{set_words, from_of, count_in, list_in, refs_at}
+use Rattle.changes.specs.Layout.{set_words, from_of, count_in, list_in}
+use Rattle.changes.specs.declared.lists.EntryList.{EntryList}
+use Rattle.changes.specs.Listed.{refs_of, Walked}
 use Rattle.changes.specs.Walk.{refs_to, Walks, Put}
 use Rattle.changes.proofs.Refs.{length_sort, length_without}
 use Rattle.changes.proofs.EntryLaws.{refs_at_lem, length_refs}
 use Rattle.sets.specs.declared.Counts.{Counts}
-use Rattle.sets.specs.Tables.{put_list, Fits, created_in, modified_in, deleted_in, Joins, United, Rises, Settled}
+use Rattle.sets.specs.Tables.{put_list, Roomy, Fits, created_in, modified_in, deleted_in, Joins, United, Rises, Settled}
 use Rattle.sets.proofs.ListLaws.{without_rises, without_again, length_to_lem, put_size, put_list_lem, put_before}
 
 -- ---- a list written into a table
@@ -25,20 +27,25 @@ list_room_lem f t l e n r f' h s k = let u = put_size f _ _ r f' h in omega arit
 pub ruleset putting = (list_put, list_room_lem)
 
 -- ---- a list of a table, by the count that stands in it
-module _ (f : List ℕ) (l a : ℕ) (h : Fits f) (k : l < 3) (e : a ≡ get_or f l 0) where
-  pub few : a ≤ max_entries
-  unfolding count_in
-  few = let u = h.room.few l k in omega arith
+pub roomy_few : (t : List ℕ) (l w n : ℕ) → Roomy t → w ≡ l → l < 3 → n ≡ get_or t w 0 → n ≤ max_entries
+unfolding count_in
+roomy_few t l w n h e k d = let u = h.few l k in omega (arith, rw e at d)
 
-  pub walked : refs_to f (from_of l + a * 2) a ≡ list_in f l
-  unfolding list_in count_in
-  walked = refs_at_lem f (from_of l) a ∙ ap (λ (n : ℕ). refs_at f (from_of l) n) e
+pub roomy_count : (t : List ℕ) (l w n : ℕ) → w ≡ l → n ≡ get_or t w 0 → n ≡ count_in t l
+unfolding count_in
+roomy_count t l w n e d = rw e at d
 
-  pub walks : Walks f (from_of l + a * 2) a
-  walks =
-      let u = few in
-      let s = h.room.size in
-      record { starts = omega arith; ends = omega arith; rises = rw walked (h.rises l k) }
+pub few : (f : List ℕ) (l a : ℕ) → Fits f → l < 3 → a ≡ get_or f l 0 → a ≤ max_entries
+few f l a h k e = roomy_few f l l a h.room refl k e
+
+-- as the code gives it
+module _ (f : List ℕ) (l : ℕ) (h : Fits f) (k : l < 3) (x : EntryList) (w : x.words.now ≡ f) (e : x.end ≡ from_of l + count_in f l * 2) (n : x.count ≡ count_in f l) where
+  pub given : refs_of x ≡ list_in f l
+  unfolding list_in
+  given = rw (w, e, n) (refs_at_lem f (from_of l) (count_in f l))
+
+  pub given_walks : Walked x
+  given_walks = let u = h.room.few l k in let s = h.room.size in let z = ap length w in record { starts = omega arith; ends = omega arith; rises = rw given (h.rises l k) }
 
 -- ---- united
 pub length_in : (f : List ℕ) (l : ℕ) → length (list_in f l) ≡ count_in f l
@@ -54,26 +61,17 @@ joined_few f c l r room e h =
     let g = length_in c l in
     omega arith
 
-module _ (u : List ℕ) (p : ℕ) (f c : List ℕ) (l a b : ℕ) (h : Fits f) (g : Fits c) (k : l < 3) (e : a ≡ get_or f l 0) (d : b ≡ get_or c l 0) where
-  pub list_asks : p + (count_in f l + count_in c l) * 2 ≤ length u → Walks f (from_of l + a * 2) a × Walks c (from_of l + b * 2) b × (p + (a + b) * 2 ≤ length u)
-  unfolding count_in
-  list_asks o = (walks f l a h k e, walks c l b g k d, rw (e, d) o)
-
-  pub list_united : (r : ℕ) (u' : List ℕ) → Put u p (sort_refs (refs_to f (from_of l + a * 2) a ++ refs_to c (from_of l + b * 2) b)) r u'
-      → Put u p (sort_refs (list_in f l ++ list_in c l)) r u'
-  list_united r u' q = rw (walked f l a h k e, walked c l b g k d) at q
-
 module _ (u : List ℕ) (room : ℕ) (f c : List ℕ) (h : Joins u room f c) where
-  pub unite_asks : Fits f × Fits c × (0 < 3) × (0 + (count_in f 0 + count_in c 0) * 2 ≤ length u)
-  unite_asks = (h.first, h.second, omega arith, let a = h.created in let s = h.size in omega arith)
+  pub unite_asks : Fits f × Fits c × (0 + (count_in f 0 + count_in c 0) * 2 ≤ length u)
+  unite_asks = (h.first, h.second, let a = h.created in let s = h.size in omega arith)
 
   module _ (r0 : ℕ) (u1 : List ℕ) (p0 : Put u 0 (sort_refs (list_in f 0 ++ list_in c 0)) r0 u1) where
-    pub unite_asks_2 : Fits f × Fits c × (1 < 3) × (room * 2 + (count_in f 1 + count_in c 1) * 2 ≤ length u1)
-    unite_asks_2 = (h.first, h.second, omega arith, let z = put_size u 0 _ r0 u1 p0 in let a = h.modified in let s = h.size in omega arith)
+    pub unite_asks_2 : Fits f × Fits c × (room * 2 + (count_in f 1 + count_in c 1) * 2 ≤ length u1)
+    unite_asks_2 = (h.first, h.second, let z = put_size u 0 _ r0 u1 p0 in let a = h.modified in let s = h.size in omega arith)
 
     module _ (r1 : ℕ) (u2 : List ℕ) (p1 : Put u1 (room * 2) (sort_refs (list_in f 1 ++ list_in c 1)) r1 u2) where
-      pub unite_asks_3 : Fits f × Fits c × (2 < 3) × (room * 4 + (count_in f 2 + count_in c 2) * 2 ≤ length u2)
-      unite_asks_3 = (h.first, h.second, omega arith, let z = put_size u 0 _ r0 u1 p0 in let y = put_size u1 (room * 2) _ r1 u2 p1 in let a = h.deleted in let s = h.size in omega arith)
+      pub unite_asks_3 : Fits f × Fits c × (room * 4 + (count_in f 2 + count_in c 2) * 2 ≤ length u2)
+      unite_asks_3 = (h.first, h.second, let z = put_size u 0 _ r0 u1 p0 in let y = put_size u1 (room * 2) _ r1 u2 p1 in let a = h.deleted in let s = h.size in omega arith)
 
       pub united : (r2 : ℕ) (u3 : List ℕ) → Put u2 (room * 4) (sort_refs (list_in f 2 ++ list_in c 2)) r2 u3 → United u room f c (record { created = r0; modified = r1; deleted = r2 }) u3
       united r2 u3 p2 =
@@ -97,7 +95,7 @@ module _ (u : List ℕ) (room : ℕ) (f c : List ℕ) (h : Joins u room f c) whe
             deleted = put_list_lem u2 (room * 4) _ r2 u3 p2 (omega arith);
           }
 
-pub ruleset uniting = (list_asks, list_united, unite_asks, unite_asks_2, unite_asks_3, united)
+pub ruleset uniting = (unite_asks, unite_asks_2, unite_asks_3, united)
 
 -- ---- settled
 module _ (u v : List ℕ) (room : ℕ) (n : Counts) (h : Rises u v room n) where

@@ -12,21 +12,20 @@ use Rattle.rows.proofs.Bools.{parts, and_i, and_l, and_no, clash}
 use Rattle.refusal.specs.Answer.{done}
 use Rattle.refusal.specs.declared.Refusal.TheVariants.{Full, BadSet}
 use Rattle.map.specs.Entity.{EntityRef}
-use Rattle.changes.specs.ChangeFile.{max_entries, rising_refs, entries, apart, lists_apart, lists_ok}
+use Rattle.changes.specs.ChangeFile.{max_entries, rising_refs, entries, lists_apart, lists_ok}
 use Rattle.changes.specs.ChangeSet.{ChangeSet, without, normalize, fold_step}
 use Rattle.changes.specs.Running.{fold_fits, fold_call}
 use Rattle.changes.specs.Layout.{list_words, from_of, set_words, count_in, refs_at, warnings_at, list_in, change_set_of, lists_ok_in, fold_tables}
-use Rattle.changes.specs.Walk.{refs_to, Walks, written}
+use Rattle.changes.specs.Walk.{written}
 use Rattle.changes.proofs.Refs.{sort_rising}
 use Rattle.changes.proofs.EntryLaws.{entries_few, entries_rise}
 use Rattle.changes.proofs.WrittenLaws.{length-written, word_before, word_past, refs_same, warnings_same, refs_written}
 use Rattle.sets.specs.declared.Counts.{Counts}
-use Rattle.sets.specs.declared.Folded.{Folded}
-use Rattle.sets.specs.declared.Folded.TheVariants.{Done, Refused}
+use Rattle.std.specs.Prelude.{Ok, Err}
 use Rattle.sets.specs.Tables.{crowd_of, put_list, put_lists, Fits, created_in, modified_in, deleted_in, Joins, United, Rises, Settled, Made}
-use Rattle.sets.specs.Fold.{fold_fitted, FoldsTo, FoldCalled}
+use Rattle.sets.specs.Fold.{Folded, fold_fitted, FoldsTo, FoldCalled}
 use Rattle.sets.proofs.ListLaws.{without_sorted, length_to_lem}
-use Rattle.sets.proofs.SettleLaws.{length_in, few, walks, walked}
+use Rattle.sets.proofs.SettleLaws.{length_in}
 
 -- ---- one list written over
 module _ (w : List ℕ) (l : ℕ) (xs : List EntityRef) (k : l < 3) (n : length xs ≤ max_entries) (s : length w ≡ set_words) where
@@ -206,18 +205,18 @@ no_warnings : (x y : ChangeSet) → fold_step x y ≡ record { created = (fold_s
 unfolding fold_step normalize
 no_warnings x y = refl
 
-too_long : (f c : List ℕ) → fold_fits (fold_step (change_set_of f) (change_set_of c)) ≡ false → FoldsTo f c (Refused Full) f
+too_long : (f c : List ℕ) → fold_fits (fold_step (change_set_of f) (change_set_of c)) ≡ false → FoldsTo f c (Err Full) f
 unfolding fold_fitted
 too_long f c e = record { answer = rw e; unchanged = λ _. refl }
 
 module _ (f c u v : List ℕ) (room : ℕ) (r : Counts) (h : Made u v room r (fold_step (change_set_of f) (change_set_of c))) where
-  pub full_created : max_entries < r.created → FoldsTo f c (Refused Full) f
+  pub full_created : max_entries < r.created → FoldsTo f c (Err Full) f
   full_created k = too_long f c (unfit_c u v room r _ h k)
 
-  pub full_modified : max_entries < r.modified → FoldsTo f c (Refused Full) f
+  pub full_modified : max_entries < r.modified → FoldsTo f c (Err Full) f
   full_modified k = too_long f c (unfit_m u v room r _ h k)
 
-  pub full_deleted : max_entries < r.deleted → FoldsTo f c (Refused Full) f
+  pub full_deleted : max_entries < r.deleted → FoldsTo f c (Err Full) f
   full_deleted k = too_long f c (unfit_d u v room r _ h k)
 
   module _ (s : length f ≡ set_words) (a : r.created ≤ max_entries) (b : r.modified ≤ max_entries) (d : r.deleted ≤ max_entries) (f' : List ℕ)
@@ -228,7 +227,7 @@ module _ (f c u v : List ℕ) (room : ℕ) (r : Counts) (h : Made u v room r (fo
         (let x = length_to_lem u (room * 2 + r.modified * 2) r.modified in omega arith)
         (let x = length_to_lem v (room * 4 + r.deleted * 2) r.deleted in omega arith)
 
-    pub folded : FoldsTo f c Done (set f' 3 0)
+    pub folded : FoldsTo f c (Ok tt) (set f' 3 0)
     unfolding fold_fitted
     folded = record {
       answer = ap done (left ∙ right) ∙ rw (fit u v room r _ h a b d);
@@ -243,24 +242,6 @@ module _ (f c u v : List ℕ) (room : ℕ) (r : Counts) (h : Made u v room r (fo
 
         right : record { created = created_in v room r; modified = modified_in u room r; deleted = deleted_in v room r; warnings = [] } ≡ fold_step (change_set_of f) (change_set_of c)
         right = rw (h.created, h.modified, h.deleted) (sym (no_warnings (change_set_of f) (change_set_of c)))
-
--- ---- tests in a row
-module _ (a b c : Bool) where
-  pub stop_first : (r : Bool) → r ≡ a → not r ≡ true → false ≡ (a && b && c)
-  stop_first true e n = clash n refl
-  stop_first false e n = rw (← e)
-
-  pub stop_second : (q r : Bool) → q ≡ a → not q ≡ false → r ≡ b → not r ≡ true → false ≡ (a && b && c)
-  stop_second false r d m e n = clash refl m
-  stop_second true true d m e n = clash n refl
-  stop_second true false d m e n = rw (← d, ← e)
-
-  pub stop_third : (p q r : Bool) → p ≡ a → not p ≡ false → q ≡ b → not q ≡ false → r ≡ c → r ≡ (a && b && c)
-  stop_third false q r d m e n k = clash refl m
-  stop_third true false r d m e n k = clash refl n
-  stop_third true true r d m e n k = rw (← d, ← e) k
-
-pub ruleset testing = (stop_first, stop_second, stop_third)
 
 -- ---- which tables fit
 module _ (t : List ℕ) (s : length t ≡ set_words) where
@@ -287,13 +268,6 @@ no_of false e = refl
 pub list_told : (t : List ℕ) (l n : ℕ) (r : Bool) → n ≡ get_or t l 0 → r ≡ entries.fits (refs_at t (from_of l) n) → r ≡ entries.fits (list_in t l)
 unfolding list_in count_in
 list_told t l n r e h = rw (← e) h
-
-module _ (t : List ℕ) (l m a b : ℕ) (h : Fits t) (k : l < 3) (g : m < 3) (e : a ≡ get_or t l 0) (d : b ≡ get_or t m 0) where
-  pub apart_asks : Walks t (from_of l + a * 2) a × Walks t (from_of m + b * 2) b
-  apart_asks = (walks t l a h k e, walks t m b h g d)
-
-  pub apart_told : (r : Bool) → r ≡ apart (refs_to t (from_of l + a * 2) a) (refs_to t (from_of m + b * 2) b) → r ≡ apart (list_in t l) (list_in t m)
-  apart_told r q = rw (walked t l a h k e, walked t m b h g d) at q
 
 module _ (t : List ℕ) where
   pub ok_size : (length t ≡ set_words → ⊥) → false ≡ lists_ok_in t
@@ -338,12 +312,12 @@ fits_joins f c u room x y w s =
     record { first = x; second = y; created = omega arith; modified = omega arith; deleted = omega arith; size = s }
 
 module _ (f c : List ℕ) (p : Bool) (a : p ≡ lists_ok_in f) where
-  pub bad_fold : not p ≡ true → FoldCalled f c (Refused BadSet) f
+  pub bad_fold : not p ≡ true → FoldCalled f c (Err BadSet) f
   unfolding fold_tables
   bad_fold n = record { answer = rw (← a, no_of p n); unchanged = λ _. refl }
 
   module _ (m : not p ≡ false) (q : Bool) (b : q ≡ lists_ok_in c) where
-    pub bad_set : not q ≡ true → FoldCalled f c (Refused BadSet) f
+    pub bad_set : not q ≡ true → FoldCalled f c (Err BadSet) f
     unfolding fold_tables
     bad_set n = record { answer = rw (← b, no_of q n, and_no (lists_ok_in f)); unchanged = λ _. refl }
 

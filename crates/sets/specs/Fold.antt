@@ -1,20 +1,21 @@
 -- What the fold call answers and leaves.
-use Rattle.std.specs.Prelude.{ℕ, ◌≡◌, Bool, true, false, not, List, []}
-use Rattle.refusal.specs.Answer.{Answer, done, refused_as, refuse_when, ◌>>◌}
+use Rattle.std.specs.Prelude.{ℕ, ◌≡◌, Bool, true, not, List, [], Result, is_err}
+use Rattle.refusal.specs.Answer.{Answer, done, answered, refuse_when, ◌>>◌}
 use Rattle.changes.specs.ChangeSet.{ChangeSet, fold_step}
 use Rattle.changes.specs.Running.{fold_fits}
 use Rattle.changes.specs.Layout.{change_set_of, fold_tables}
-use Rattle.sets.specs.declared.Folded.{Folded}
-use Rattle.sets.specs.declared.Folded.TheVariants.{Done, Refused}
+use Rattle.refusal.specs.declared.Refusal.{Refusal}
 
--- the answer that the code's stands for, with the set that is left
+-- what a fold in the code answers
+abbrev pub Folded : Type 0
+Folded = Result (Unit {0}) Refusal
+
+-- the answer that it stands for, with the set that is left
 abbrev pub folded_as : Folded → ChangeSet → Answer ChangeSet
-folded_as Done g = done g
-folded_as (Refused r) g = refused_as r
+folded_as a g = answered a >> done g
 
 abbrev pub is_refused : Folded → Bool
-is_refused Done = false
-is_refused (Refused r) = true
+is_refused a = is_err a
 
 -- for lists that are those of sets
 unfoldable pub fold_fitted : ChangeSet → ChangeSet → Answer ChangeSet

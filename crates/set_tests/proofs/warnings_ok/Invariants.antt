@@ -4,8 +4,5 @@ use Rattle.changes.specs.ChangeFile.{warnings}
 use Rattle.set_tests.proofs.SetLaws as L
 use Rattle.set_tests.proofs.warnings_ok.Given as goal
 
-abbrev pub invariant-loop-left : goal.invariant-loop-left
-invariant-loop-left l = L.Passing (warnings.fits (warnings_at l.t (from_of 3) l.n)) l.t l.at l.left
-
-abbrev pub decreases-loop-left : goal.decreases-loop-left
-decreases-loop-left l = l.left
+abbrev pub invariant-loop-i : goal.invariant-loop-i
+invariant-loop-i l = L.Passing (warnings.fits (warnings_at l.t (from_of 3) l.n)) l.t l.n l.i

@@ -1,6 +1,5 @@
--- `sets::list_ok` meets its contract. Assumes nothing.
 use Rattle.sets.proofs.TableLaws as L
 use Rattle.sets.proofs.list_ok.Goals as goal
 
 pub returns : goal.returns
-returns c = L.list_told _ _ _ _ c.index.ensures c.entries_ok.ensures
+returns c = L.list_told _ _ _ _ (rw c.word.ensures.number at c.index.ensures) (rw c.begin.ensures.from at c.entries_ok.ensures)

@@ -1,23 +1,16 @@
--- `sets::two_apart` meets its contract. Assumes nothing.
-use native.Mathlib.Omega.{arith}
-use Rattle.sets.proofs.SettleLaws as S
-use Rattle.sets.proofs.TableLaws as L
+use Rattle.changes.proofs.KindLaws.{list_below}
+use Rattle.sets.proofs.SettleLaws as L
 use Rattle.sets.proofs.two_apart.Goals as goal
 
-pub overflow_mul-a : goal.overflow_mul-a
-overflow_mul-a c = omega (arith, S.few _ _ _ c.requires.0 c.requires.1 c.index-a.ensures)
-
-pub overflow_add-l-2 : goal.overflow_add-l-2
-overflow_add-l-2 c = omega (arith, S.few _ _ _ c.requires.0 c.requires.1 c.index-a.ensures)
-
-pub overflow_mul-b : goal.overflow_mul-b
-overflow_mul-b c = omega (arith, S.few _ _ _ c.requires.0 c.requires.2 c.index-b.ensures)
-
-pub overflow_add-m-2 : goal.overflow_add-m-2
-overflow_add-m-2 c = omega (arith, S.few _ _ _ c.requires.0 c.requires.2 c.index-b.ensures)
-
 pub are_apart-requires : goal.are_apart-requires
-are_apart-requires c = L.apart_asks _ _ _ _ _ c.requires.0 c.requires.1 c.requires.2 c.index-a.ensures c.index-b.ensures
+are_apart-requires c = (
+  L.given_walks _ _ c.requires (list_below c.args.l) c.list.result c.list.ensures.words c.list.ensures.end c.list.ensures.count,
+  L.given_walks _ _ c.requires (list_below c.args.m) c.list-2.result c.list-2.ensures.words c.list-2.ensures.end c.list-2.ensures.count,
+)
 
 pub returns : goal.returns
-returns c = L.apart_told _ _ _ _ _ c.requires.0 c.requires.1 c.requires.2 c.index-a.ensures c.index-b.ensures _ c.are_apart.ensures
+returns c =
+    rw (
+      L.given _ _ c.requires (list_below c.args.l) c.list.result c.list.ensures.words c.list.ensures.end c.list.ensures.count,
+      L.given _ _ c.requires (list_below c.args.m) c.list-2.result c.list-2.ensures.words c.list-2.ensures.end c.list-2.ensures.count,
+    ) at c.are_apart.ensures
