@@ -1,6 +1,7 @@
 -- A table that is passed over.
 use Prim.Native.Nat.{ℕ, zero, suc, ◌+◌, ◌-◌, ◌*◌, ◌^◌, ◌≤◌, ◌<◌}
 use mathlib.Core.Path.{◌≡◌, refl, sym, ap, ◌∙◌, subst}
+use mathlib.Core.Logic.{◌⊎◌, inl, inr}
 use mathlib.Core.Bool.{true, false, ◌&&◌, cond}
 use mathlib.Core.List.{List, [], ◌∷◌, ◌++◌, append_assoc, append-nil}
 use native.Mathlib.Omega.{arith}
@@ -16,10 +17,10 @@ use Rattle.codec.specs.Format.{Bytes, Read, fault, got, and_then, only, read_ite
 use Rattle.codec.specs.Items.{list}
 use Rattle.map.specs.MapFile.{table}
 use Rattle.store.specs.Layout.{limit_of, width_of, coord_width_of}
+use Rattle.store.proofs.KindLaws.{kind_below}
 use Rattle.store.proofs.StoreLaws.{limit_small}
-use Rattle.fields.specs.Fields.{read_at, got_at, Word}
-use Rattle.fields.specs.declared.Place.{Place}
-use Rattle.fields.specs.declared.Place.TheVariants as P
+use Rattle.fields.specs.Fields.{Place, read_at, got_at, Word}
+use Rattle.std.specs.Prelude.{Some, None}
 use Rattle.fields.proofs.Places.{onto, Listed, listed_starts, listed-all, listed_more, listed_ends}
 use Rattle.records.specs.Records.{Rec, record_form, record_in, RowRead}
 use Rattle.checking.specs.Checking.{record_num, record_points, points_in, table_form, seen, TableChecked}
@@ -33,8 +34,8 @@ module _ (k next : ℕ) (s : Bytes) where
 
   answer_is : (p : Place) → seen (total (record_points k)) (read_at (table_form k next) s p) ≡ tested (read_at (list (limit_of k) (record_form k)) s p)
   unfolding table only
-  answer_is P.Fault = refl
-  answer_is (P.At i) = refl
+  answer_is None = refl
+  answer_is (Some i) = refl
 
   -- a test that fails whatever follows
   early_read : (r : Read (List (Rec k))) (xs : List (Rec k)) → ((qs : List (Rec k)) → rising (record_num k) 0 next (xs ++ qs) ≡ false) → fault ≡ tested (and_then r (λ qs t. got (xs ++ qs) t))
@@ -42,16 +43,16 @@ module _ (k next : ℕ) (s : Bytes) where
   early_read (got qs t) xs h = rw (h qs)
 
   early : (n : ℕ) (q : Place) (xs : List (Rec k)) → ((qs : List (Rec k)) → rising (record_num k) 0 next (xs ++ qs) ≡ false) → fault ≡ tested (onto (record_form k) xs n s q)
-  early n P.Fault xs h = refl
-  early n (P.At i) xs h = early_read (read_items (record_form k) n (drop i s)) xs h
+  early n None xs h = refl
+  early n (Some i) xs h = early_read (read_items (record_form k) n (drop i s)) xs h
 
-  cut_now : (n : ℕ) (q : Place) (xs : List (Rec k)) → q ≡ P.Fault → fault ≡ tested (onto (record_form k) xs n s q)
-  cut_now n P.Fault xs h = refl
-  cut_now n (P.At i) xs h = absurd (let z : ◌≡◌ {A = ℕ} 0 1 = cc in let y : ⊥ = omega arith in y)
+  cut_now : (n : ℕ) (q : Place) (xs : List (Rec k)) → q ≡ None → fault ≡ tested (onto (record_form k) xs n s q)
+  cut_now n None xs h = refl
+  cut_now n (Some i) xs h = absurd (let z : ◌≡◌ {A = ℕ} 0 1 = cc in let y : ⊥ = omega arith in y)
 
   passed-all : (q : Place) (xs : List (Rec k)) → rising (record_num k) 0 next xs ≡ true → got_at s q (total (record_points k) xs) ≡ tested (got_at s q xs)
-  passed-all P.Fault xs h = refl
-  passed-all (P.At i) xs h = rw h
+  passed-all None xs h = refl
+  passed-all (Some i) xs h = rw h
 
 -- ---- the loop
 
@@ -96,9 +97,9 @@ module _ (s : Bytes) (p : Place) (k next most : ℕ) (old row₀ : List ℕ) (xs
       }
 
   module _ (row : List ℕ) (xs : List Float) (q : Place) (i low sum : ℕ) (w : Passing s k next row₀ xs₀ q₀ (get_or row₀ 0 0) row xs q i low sum) where
-    pub passing_ends : get_or row₀ 0 0 ≤ i → TableChecked s p k next (record { points = sum; place = q })
+    all_passed : get_or row₀ 0 0 ≤ i → got_at s q sum ≡ seen (total (record_points k)) (read_at (table_form k next) s p)
     unfolding rising
-    passing_ends g =
+    all_passed g =
         let n : ℕ = get_or row₀ 0 0 in
         let c : i ≡ n = omega (arith, w.items.few) in
         let t : rising (record_num k) 0 next (list_to w.v n) ≡ true = rw (← c) (rw append-nil at (w.rise [])) in
@@ -106,7 +107,13 @@ module _ (s : Bytes) (p : Place) (k next most : ℕ) (old row₀ : List ℕ) (xs
         let y : got_at s q sum ≡ tested k next s (got_at s q (list_to w.v n)) = rw (← m) (passed-all k next s q (list_to w.v n) t) in
         let z : tested k next s (got_at s q (list_to w.v n)) ≡ seen (total (record_points k)) (read_at (table_form k next) s p) =
         rw (answer_is k next s p, ← whole) (ap (tested k next s) (listed_ends (record_form k) s _ n i q _ w.items g)) in
-        record { few = omega (arith, w.bound, w.small); is = y ∙ z }
+        y ∙ z
+
+    pub passing_ends : get_or row₀ 0 0 ≤ i → (e : ℕ) → q ≡ Some e → TableChecked s p k next (Some (sum, e))
+    passing_ends g e f = record { few = omega (arith, w.bound, w.small, w.items.few); is = rw f at (all_passed g) }
+
+    pub passing_lost : get_or row₀ 0 0 ≤ i → q ≡ None → TableChecked s p k next None
+    passing_lost g f = record { few = omega arith; is = rw f at (all_passed g) }
 
     module _ (g : i < get_or row₀ 0 0) (q' : Place) (row' : List ℕ) (xs' : List Float) (y : RowRead (record_form k) (record_in k) s q row xs q' row' xs') where
       abbrev a : Rec k
@@ -130,7 +137,7 @@ module _ (s : Bytes) (p : Place) (k next most : ℕ) (old row₀ : List ℕ) (xs
       unfolding list_to
       front = rw (add-one i, list_to_same w.v v' i same, here)
 
-      pub passing_cut : q' ≡ P.Fault → TableChecked s p k next (record { points = 0; place = P.Fault })
+      pub passing_cut : q' ≡ None → TableChecked s p k next None
       passing_cut f = record { few = omega arith; is = cut_now k next s (get_or row₀ 0 0 - (i + 1)) q' (list_to v' (i + 1)) f ∙ rw (answer_is k next s p, ← whole, ← further.goes) }
 
       num : record_num k a ≡ get_or row' 0 0
@@ -140,23 +147,21 @@ module _ (s : Bytes) (p : Place) (k next most : ℕ) (old row₀ : List ℕ) (xs
       unfolding rising
       step qs = rw (front, append_assoc) (w.rise (a ∷ qs)) ∙ ap (λ z. leb low z && ltb z next && rising (record_num k) (suc z) next qs) num
 
-      stops : leb low (get_or row' 0 0) && ltb (get_or row' 0 0) next ≡ false → TableChecked s p k next (record { points = 0; place = P.Fault })
+      stops : leb low (get_or row' 0 0) && ltb (get_or row' 0 0) next ≡ false → TableChecked s p k next None
       stops f =
           record {
             few = omega arith;
             is = early k next s (get_or row₀ 0 0 - (i + 1)) q' (list_to v' (i + 1)) (λ qs. step qs ∙ rw f) ∙ rw (answer_is k next s p, ← whole, ← further.goes);
           }
 
-      pub passing_falls : get_or row' 0 0 < low → TableChecked s p k next (record { points = 0; place = P.Fault })
-      passing_falls l = stops (rw (lt-leb low (get_or row' 0 0) l))
+      pub passing_off : (get_or row' 0 0 < low) ⊎ ((low ≤ get_or row' 0 0) × (next ≤ get_or row' 0 0)) → TableChecked s p k next None
+      passing_off (inl l) = stops (rw (lt-leb low (get_or row' 0 0) l))
+      passing_off (inr l) = stops (rw (le-leb low (get_or row' 0 0) l.0, le-ltb (get_or row' 0 0) next l.1))
 
-      pub passing_high : low ≤ get_or row' 0 0 → next ≤ get_or row' 0 0 → TableChecked s p k next (record { points = 0; place = P.Fault })
-      passing_high l m = stops (rw (le-leb low (get_or row' 0 0) l, le-ltb (get_or row' 0 0) next m))
-
-      module _ (after : ℕ) (f : q' ≡ P.At after) where
-        fits_at : (z : Place) → got_at s (P.At after) a ≡ read_at (record_form k) s z → (record_form k).fits a ≡ true
-        fits_at P.Fault u = absurd (no_got (sym u))
-        fits_at (P.At j) u = ((record_form k).back (drop j s) a (drop after s) (sym u)).0
+      module _ (after : ℕ) (f : q' ≡ Some after) where
+        fits_at : (z : Place) → got_at s (Some after) a ≡ read_at (record_form k) s z → (record_form k).fits a ≡ true
+        fits_at None u = absurd (no_got (sym u))
+        fits_at (Some j) u = ((record_form k).back (drop j s) a (drop after s) (sym u)).0
 
         small_points : record_points k a ≤ 192
         small_points = points_few k a (fits_at q (rw f at y.is))
@@ -184,7 +189,7 @@ module _ (s : Bytes) (p : Place) (k next most : ℕ) (old row₀ : List ℕ) (xs
               bound = omega (arith, w.bound, passing_few, e);
             }
 
-        pub passing_on : (d : ℕ) → d ≡ points_in k row' → low ≤ get_or row' 0 0 → get_or row' 0 0 < next → Passing s k next row₀ xs₀ q₀ (get_or row₀ 0 0) row' xs' (P.At after) (i + 1) (get_or row' 0 0 + 1) (sum + d)
+        pub passing_on : (d : ℕ) → d ≡ points_in k row' → low ≤ get_or row' 0 0 → get_or row' 0 0 < next → Passing s k next row₀ xs₀ q₀ (get_or row₀ 0 0) row' xs' (Some after) (i + 1) (get_or row' 0 0 + 1) (sum + d)
         passing_on d e l m = subst (λ (z : Place). Passing s k next row₀ xs₀ q₀ (get_or row₀ 0 0) row' xs' z (i + 1) (get_or row' 0 0 + 1) (sum + d)) f (passing_more d e l m)
 
 wide_row : (k : ℕ) → k < 6 → (width_of k ≤ 92) × (coord_width_of k ≤ 576)
@@ -203,4 +208,4 @@ row_wide k n h g = omega (arith, (wide_row k h).0)
 pub coords_wide : (k n : ℕ) → k < 6 → 576 ≤ n → coord_width_of k ≤ n
 coords_wide k n h g = omega (arith, (wide_row k h).1)
 
-pub ruleset passing = (passing_starts, passing_ends, passing_cut, passing_falls, passing_high, row_wide, coords_wide)
+pub ruleset passing = (passing_starts, passing_ends, passing_lost, passing_cut, passing_off, row_wide, coords_wide, kind_below)

@@ -1,14 +1,14 @@
 -- The points of a row.
-use Prim.Native.Nat.{ℕ, zero, suc, ◌+◌, ◌^◌, ◌≤◌, ◌<◌}
+use Prim.Native.Nat.{ℕ, zero, suc, ◌≤◌, ◌<◌}
 use mathlib.Core.Path.{◌≡◌, refl, sym, ◌∙◌}
 use mathlib.Core.Bool.{Bool, true, false, ◌&&◌, cond}
-use mathlib.Core.Option.{Option, none, some}
+use Rattle.std.specs.Prelude.{Option, None, Some}
 use mathlib.Core.List.{List}
 use native.Mathlib.Omega.{arith}
 use lib.Dec.{eqb}
 use lib.Ieee.{Float}
 use lib.ListN.{length, get_or}
-use borrow.Author.Tests.{eq-eqb, ne_eqb, leb-true}
+use borrow.Author.Tests.{ne_eqb, leb-true}
 use Rattle.rows.proofs.Indexed.{length-list_to}
 use Rattle.rows.proofs.Bools.{parts}
 use Rattle.codec.specs.Format.{◌⊗◌, via, both, tagged}
@@ -23,63 +23,9 @@ use Rattle.map.specs.Tables.{flag_at, option_at, line_at, body_of, lane_in, line
 use Rattle.records.specs.Records.{Rec, record_form, record_in}
 use Rattle.checking.specs.Checking.{record_num, record_points, points_in}
 
--- ---- the code's cases
-
-module _ (k : ℕ) (r : List ℕ) where
-  pub no_centerline : k ≡ 0 → get_or r 6 0 ≡ 0 → 0 ≡ points_in k r
-  unfolding flag_at points_in
-  no_centerline e z = rw (e, eq-eqb (get_or r 6 0) 0 z)
-
-  pub a_centerline : k ≡ 0 → (get_or r 6 0 ≡ 0 → ⊥) → get_or r 7 0 ≡ points_in k r
-  unfolding flag_at points_in
-  a_centerline e z = rw (e, ne_eqb (get_or r 6 0) 0 z)
-
-  pub a_signal : k ≡ 3 → get_or r 2 0 ≡ points_in k r
-  unfolding points_in
-  a_signal e = rw e
-
-  pub two_edges : k ≡ 4 → points_in k r ≤ 192 → get_or r 1 0 + get_or r 2 0 < 2 ^ 64
-  unfolding points_in
-  two_edges e h = let g : get_or r 1 0 + get_or r 2 0 + cond (flag_at r 3) (get_or r 4 0) 0 ≤ 192 = rw e at h in omega arith
-
-  pub no_outline : k ≡ 4 → get_or r 3 0 ≡ 0 → get_or r 1 0 + get_or r 2 0 ≡ points_in k r
-  unfolding flag_at points_in
-  no_outline e z = rw (e, eq-eqb (get_or r 3 0) 0 z) (omega arith)
-
-  pub an_outline : k ≡ 4 → (get_or r 3 0 ≡ 0 → ⊥) → get_or r 1 0 + get_or r 2 0 + get_or r 4 0 ≡ points_in k r
-  unfolding flag_at points_in
-  an_outline e z = rw (e, ne_eqb (get_or r 3 0) 0 z)
-
-  pub three_edges : k ≡ 4 → (get_or r 3 0 ≡ 0 → ⊥) → points_in k r ≤ 192 → get_or r 1 0 + get_or r 2 0 + get_or r 4 0 < 2 ^ 64
-  three_edges e z h = omega (arith, an_outline e z)
-
-  pub no_shape : k ≡ 5 → get_or r 1 0 ≡ 2 → get_or r 5 0 ≡ 0 → 0 ≡ points_in k r
-  unfolding flag_at points_in
-  no_shape e t z = rw (e, eq-eqb (get_or r 1 0) 2 t, eq-eqb (get_or r 5 0) 0 z)
-
-  pub a_shape : k ≡ 5 → get_or r 1 0 ≡ 2 → (get_or r 5 0 ≡ 0 → ⊥) → get_or r 6 0 ≡ points_in k r
-  unfolding flag_at points_in
-  a_shape e t z = rw (e, eq-eqb (get_or r 1 0) 2 t, ne_eqb (get_or r 5 0) 0 z)
-
-  pub no_sign : k ≡ 5 → (get_or r 1 0 ≡ 2 → ⊥) → 0 ≡ points_in k r
-  unfolding points_in
-  no_sign e t = rw (e, ne_eqb (get_or r 1 0) 2 t)
-
-pub a_line : (k : ℕ) (r : List ℕ) → k < 6 → (k ≡ 0 → ⊥) → (k ≡ 3 → ⊥) → (k ≡ 4 → ⊥) → (k ≡ 5 → ⊥) → get_or r 1 0 ≡ points_in k r
-unfolding points_in
-a_line zero r h a b c d = absurd (a refl)
-a_line (suc zero) r h a b c d = refl
-a_line (suc (suc zero)) r h a b c d = refl
-a_line (suc (suc (suc zero))) r h a b c d = absurd (b refl)
-a_line (suc (suc (suc (suc zero)))) r h a b c d = absurd (c refl)
-a_line (suc (suc (suc (suc (suc zero))))) r h a b c d = absurd (d refl)
-a_line (suc (suc (suc (suc (suc (suc k)))))) r h a b c d = absurd (let z : ⊥ = omega arith in z)
-
-pub ruleset pointing = (no_centerline, a_centerline, a_signal, two_edges, no_outline, an_outline, three_edges, no_shape, a_shape, no_sign, a_line)
-
 -- ---- a row's words give the record's points, at most 192
 
-cond_size : {A : Type 0} (f : A → ℕ) (b : Bool) (a : A) → size_of f (cond b (some a) none) ≡ cond b (f a) 0
+cond_size : {A : Type 0} (f : A → ℕ) (b : Bool) (a : A) → size_of f (cond b (Some a) None) ≡ cond b (f a) 0
 unfolding size_of
 cond_size f true a = refl
 cond_size f false a = refl
@@ -128,8 +74,8 @@ line_few xs h = leb-true (length xs) 64 (list_few 64 point xs h)
 
 option_few : (o : Option Polyline) → (option polyline).fits o ≡ true → size_of length o ≤ 64
 unfolding size_of
-option_few none h = omega arith
-option_few (some xs) h = line_few xs (fits_option polyline xs h)
+option_few None h = omega arith
+option_few (Some xs) h = line_few xs (fits_option polyline xs h)
 
 body_few : (w : RuleBody) → body.fits w ≡ true → body_points w ≤ 64
 unfolding body via tagged body_points ◌⊗◌

@@ -1,15 +1,13 @@
 -- Passing over a table: whether it stands there, where it ends, and how many points its records have.
-use Rattle.std.specs.Prelude.{ℕ, zero, suc, ◌+◌, ◌≤◌, ◌≡◌, cond, List, eqb, get_or}
+use Rattle.std.specs.Prelude.{ℕ, zero, suc, ◌+◌, ◌≤◌, ◌≡◌, cond, List, eqb, get_or, Option, Some, None}
 use Rattle.rows.specs.Lists.{total}
 use Rattle.codec.specs.Format.{Bytes, Read, fault, got, Format}
 use Rattle.map.specs.Ceilings.{lane_points, line_string_points, signal_points, crosswalk_points, rule_points}
 use Rattle.map.specs.MapFile.{table}
 use Rattle.map.specs.Tables.{flag_at}
 use Rattle.store.specs.Layout.{limit_of}
-use Rattle.fields.specs.Fields.{read_at, got_at}
-use Rattle.fields.specs.declared.Place.{Place}
+use Rattle.fields.specs.Fields.{Place, read_at, got_at}
 use Rattle.records.specs.Records.{Rec, record_form}
-use Rattle.checking.specs.declared.Checked.{Checked}
 
 abbrev pub record_num : (k : ℕ) → Rec k → ℕ
 record_num zero r = r.num
@@ -48,6 +46,18 @@ abbrev pub seen : {A B : Type 0} → (A → B) → Read A → Read B
 seen v fault = fault
 seen v (got a s) = got (v a) s
 
+-- what is passed over: its points, and where it ends
+abbrev pub Checked : Type 0
+Checked = Option (ℕ × ℕ)
+
+abbrev pub end_of : Checked → Place
+end_of (Some r) = Some r.1
+end_of None = None
+
+abbrev pub points_of : Checked → ℕ
+points_of (Some r) = r.0
+points_of None = 0
+
 pub record TableChecked (s : Bytes) (p : Place) (k next : ℕ) (r : Checked) : Type 0 where
-  pub few : r.points ≤ 24576
-  pub is : got_at s r.place r.points ≡ seen (total (record_points k)) (read_at (table_form k next) s p)
+  pub few : points_of r ≤ 24576
+  pub is : got_at s (end_of r) (points_of r) ≡ seen (total (record_points k)) (read_at (table_form k next) s p)

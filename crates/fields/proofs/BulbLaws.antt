@@ -10,8 +10,7 @@ use Rattle.codec.specs.Format.{Bytes, ◌⊗◌}
 use Rattle.codec.specs.Items.{below}
 use Rattle.map.specs.MapFile.{point, bulb}
 use Rattle.map.specs.Tables.{point_from, bulb_at}
-use Rattle.fields.specs.Fields.{read_at, got_at, Changed, Word, Cells, BulbAt, Bulbs}
-use Rattle.fields.specs.declared.Place.{Place}
+use Rattle.fields.specs.Fields.{Place, read_at, got_at, Changed, Word, Cells, BulbAt, Bulbs}
 use Rattle.fields.proofs.Places.{unchanged, changed_both, place_then, place_via, range_below, onto, Listed, listed_starts, listed-all, listed_more, listed_ends}
 
 module _ (s : Bytes) (p x y z : Place) (cs cs1 : List Float) (c : ℕ) (ws ws1 ws2 : List ℕ) (o : ℕ) where

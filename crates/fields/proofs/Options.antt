@@ -12,8 +12,7 @@ use Rattle.codec.specs.Format.{Bytes, no_true}
 use Rattle.codec.specs.Number.{number}
 use Rattle.map.specs.MapFile.{height, polyline}
 use Rattle.map.specs.Tables.{flag_at}
-use Rattle.fields.specs.Fields.{Changed, largest, Word, Cells, cell_at, Line, OptionLine, OptionNumber, OptionHeight}
-use Rattle.fields.specs.declared.Place.{Place}
+use Rattle.fields.specs.Fields.{Place, Changed, largest, Word, Cells, cell_at, Line, OptionLine, OptionNumber, OptionHeight}
 use Rattle.fields.proofs.Places.{unchanged, changed_both, range_any, option_none, option_some}
 
 module _ (s : Bytes) (p : Place) (ws : List ℕ) (o : ℕ) (q : Place) (ws1 : List ℕ) (w : Word 0 1 s p ws o q ws1) where

@@ -2,24 +2,23 @@
 use Prim.Native.Nat.{ℕ, zero, suc, ◌+◌, ◌-◌, ◌≤◌, ◌<◌}
 use mathlib.Core.Path.{◌≡◌, refl, sym, ◌∙◌}
 use mathlib.Core.Logic.{inl, inr, ⊎_elim}
-use mathlib.Core.Bool.{Bool, true, false, ◌&&◌, cond}
-use mathlib.Core.Option.{Option, none, some}
+use mathlib.Core.Bool.{Bool, true, ◌&&◌, cond}
+use Rattle.std.proofs.Math.Bool.{and-true}
 use mathlib.Core.List.{List, [], ◌∷◌, ◌++◌, append_assoc, append-nil}
 use native.Mathlib.Omega.{arith}
 use native.Mathlib.Numerals.{add-one}
-use lib.Dec.{leb, ltb}
+use lib.Dec.{leb, ltb, leb-suc-suc}
 use lib.ListN.{drop, set, length-set}
 use lib.Seq.{get_or-set_other}
-use borrow.Author.Tests.{le-leb, lt-leb, leb-true, leb-false, lt-ltb, le-ltb}
+use borrow.Author.Tests.{le-leb, lt-leb}
 use Rattle.rows.specs.Lists.{list_to}
 use Rattle.rows.proofs.Indexed.{list_to_same}
 use Rattle.codec.specs.Format.{Bytes, Read, fault, got, and_then, Format, only, via, ◌⊗◌, tagged, nothing, never, read_items, counted, no_got, same_value, same_rest}
-use Rattle.codec.specs.Number.{number, split}
+use Rattle.codec.specs.Number.{number}
 use Rattle.codec.specs.Items.{below, list, option, Maybe, maybe, to_option}
 use Rattle.codec.proofs.Fits.{number_below}
-use Rattle.fields.specs.Fields.{read_at, got_at, Changed, range, largest}
-use Rattle.fields.specs.declared.Place.{Place}
-use Rattle.fields.specs.declared.Place.TheVariants as P
+use Rattle.fields.specs.Fields.{Place, read_at, got_at, Changed, range, largest}
+use Rattle.std.specs.Prelude.{Some, None, Option}
 
 -- ---- changes
 
@@ -50,39 +49,35 @@ module _ {A B : Type 0} (f : Format A) (g : Format B) (s : Bytes) where
   -- a place after a fault is none
   pub place_then : (p q r : Place) (a : A) (b : B) → got_at s q a ≡ read_at f s p → got_at s r b ≡ read_at g s q → got_at s r (a, b) ≡ read_at (f ⊗ g) s p
   unfolding ◌⊗◌
-  place_then P.Fault (P.At j) r a b x y = absurd (no_got (sym x))
-  place_then P.Fault P.Fault (P.At k) a b x y = absurd (no_got (sym y))
-  place_then P.Fault P.Fault P.Fault a b x y = refl
-  place_then (P.At i) P.Fault (P.At k) a b x y = absurd (no_got (sym y))
-  place_then (P.At i) P.Fault P.Fault a b x y = rw (← x)
-  place_then (P.At i) (P.At j) (P.At k) a b x y = rw (← x, ← y)
-  place_then (P.At i) (P.At j) P.Fault a b x y = rw (← x, ← y)
+  place_then None (Some j) r a b x y = absurd (no_got (sym x))
+  place_then None None (Some k) a b x y = absurd (no_got (sym y))
+  place_then None None None a b x y = refl
+  place_then (Some i) None (Some k) a b x y = absurd (no_got (sym y))
+  place_then (Some i) None None a b x y = rw (← x)
+  place_then (Some i) (Some j) (Some k) a b x y = rw (← x, ← y)
+  place_then (Some i) (Some j) None a b x y = rw (← x, ← y)
 
 module _ {A : Type 0} {B : A → Type 0} (f : Format A) (g : (a : A) → Format (B a)) (s : Bytes) where
   -- the second format goes by the first value
   pub place_tagged : (p q r : Place) (a : A) (b : B a) → got_at s q a ≡ read_at f s p → got_at s r b ≡ read_at (g a) s q → got_at s r (a, b) ≡ read_at (tagged f g) s p
   unfolding tagged
-  place_tagged P.Fault (P.At j) r a b x y = absurd (no_got (sym x))
-  place_tagged P.Fault P.Fault (P.At k) a b x y = absurd (no_got (sym y))
-  place_tagged P.Fault P.Fault P.Fault a b x y = refl
-  place_tagged (P.At i) P.Fault (P.At k) a b x y = absurd (no_got (sym y))
-  place_tagged (P.At i) P.Fault P.Fault a b x y = rw (← x)
-  place_tagged (P.At i) (P.At j) (P.At k) a b x y = rw (← x, ← y)
-  place_tagged (P.At i) (P.At j) P.Fault a b x y = rw (← x, ← y)
+  place_tagged None (Some j) r a b x y = absurd (no_got (sym x))
+  place_tagged None None (Some k) a b x y = absurd (no_got (sym y))
+  place_tagged None None None a b x y = refl
+  place_tagged (Some i) None (Some k) a b x y = absurd (no_got (sym y))
+  place_tagged (Some i) None None a b x y = rw (← x)
+  place_tagged (Some i) (Some j) (Some k) a b x y = rw (← x, ← y)
+  place_tagged (Some i) (Some j) None a b x y = rw (← x, ← y)
 
 module _ {A B : Type 0} (f : Format A) (into : A → B) (out : B → A) (oi : (a : A) → f.fits a ≡ true → out (into a) ≡ a) (io : (b : B) → f.fits (out b) ≡ true → into (out b) ≡ b) (s : Bytes) where
   pub place_via : (p q : Place) (a : A) → got_at s q a ≡ read_at f s p → got_at s q (into a) ≡ read_at (via f into out oi io) s p
   unfolding via
-  place_via P.Fault P.Fault a x = refl
-  place_via P.Fault (P.At j) a x = absurd (no_got (sym x))
-  place_via (P.At i) P.Fault a x = rw (← x)
-  place_via (P.At i) (P.At j) a x = rw (← x)
+  place_via None None a x = refl
+  place_via None (Some j) a x = absurd (no_got (sym x))
+  place_via (Some i) None a x = rw (← x)
+  place_via (Some i) (Some j) a x = rw (← x)
 
 -- ---- numbers in a range
-
-and_true : (b : Bool) → b && true ≡ b
-and_true true = refl
-and_true false = refl
 
 module _ (test : ℕ → Bool) (least most : ℕ) (e : (n : ℕ) → test n ≡ leb least n && leb n most) (s : Bytes) where
   cond_same : (r : Read ℕ) → and_then r (λ k t. cond (leb least k && leb k most) (got k t) fault) ≡ and_then r (λ k t. cond (test k) (got k t) fault)
@@ -91,8 +86,8 @@ module _ (test : ℕ → Bool) (least most : ℕ) (e : (n : ℕ) → test n ≡ 
 
   pub range_only : (p : Place) → read_at (range least most) s p ≡ read_at (only test number) s p
   unfolding range only
-  range_only P.Fault = refl
-  range_only (P.At i) = cond_same (number.read (drop i s))
+  range_only None = refl
+  range_only (Some i) = cond_same (number.read (drop i s))
 
 -- a number without a range is one up to 2 ^ 64 - 1
 module _ (least : ℕ) (s : Bytes) where
@@ -101,12 +96,12 @@ module _ (least : ℕ) (s : Bytes) where
     where
       go : (r : Read ℕ) → number.read t ≡ r → and_then r (λ k u. cond (leb least k && leb k largest) (got k u) fault) ≡ and_then r (λ k u. cond (leb least k) (got k u) fault)
       go fault e = refl
-      go (got n u) e = rw (le-leb n largest (omega (arith, number_below n (number.back t n u e).0))) (rw (and_true (leb least n)))
+      go (got n u) e = rw (le-leb n largest (omega (arith, number_below n (number.back t n u e).0))) (rw (and-true (leb least n)))
 
   pub range_from : (p : Place) → read_at (range least largest) s p ≡ read_at (only (λ k. leb least k) number) s p
   unfolding range only
-  range_from P.Fault = refl
-  range_from (P.At i) = any_same (drop i s)
+  range_from None = refl
+  range_from (Some i) = any_same (drop i s)
 
   all_got : (r : Read ℕ) → and_then r (λ k u. cond (leb 0 k) (got k u) fault) ≡ r
   all_got fault = refl
@@ -114,19 +109,16 @@ module _ (least : ℕ) (s : Bytes) where
 
 pub range_any : (s : Bytes) (p : Place) → read_at (range 0 largest) s p ≡ read_at number s p
 unfolding only
-range_any s P.Fault = refl
-range_any s (P.At i) = range_from 0 s (P.At i) ∙ all_got 0 s (number.read (drop i s))
+range_any s None = refl
+range_any s (Some i) = range_from 0 s (Some i) ∙ all_got 0 s (number.read (drop i s))
 
 -- at most most, as a list's count is
 pub range_most : (most : ℕ) (s : Bytes) (p : Place) → read_at (range 0 most) s p ≡ read_at (only (λ k. leb k most) number) s p
 range_most most s p = range_only (λ k. leb k most) 0 most (λ n. rw (le-leb 0 n (omega arith))) s p
 
-below_most : (n most : ℕ) → ltb n (suc most) ≡ leb n most
-below_most n most = split (leb n most) (λ t. rw t (lt-ltb n (suc most) (omega (arith, leb-true n most t)))) (λ t. rw t (le-ltb n (suc most) (omega (arith, leb-false n most t))))
-
 pub range_below : (most : ℕ) (s : Bytes) (p : Place) → read_at (range 0 most) s p ≡ read_at (below (suc most)) s p
 unfolding below
-range_below most s p = range_only (λ k. ltb k (suc most)) 0 most (λ n. rw (le-leb 0 n (omega arith)) (below_most n most)) s p
+range_below most s p = range_only (λ k. ltb k (suc most)) 0 most (λ n. rw (le-leb 0 n (omega arith)) (leb-suc-suc n most)) s p
 
 -- ---- an option: a flag, and the value where it says yes
 
@@ -137,50 +129,50 @@ module _ {A : Type 0} (f : Format A) (s : Bytes) where
   abbrev flagged : Read ℕ → Read ℕ
   flagged r = and_then r (λ k t. cond (leb 0 k && leb k 1) (got k t) fault)
 
-  flag_none : (r : Read ℕ) (q : Place) → got_at s q 0 ≡ flagged r → got_at {A = Option A} s q none ≡ opened r
+  flag_none : (r : Read ℕ) (q : Place) → got_at s q 0 ≡ flagged r → got_at {A = Option A} s q None ≡ opened r
   unfolding nothing never
-  flag_none fault P.Fault x = refl
-  flag_none fault (P.At j) x = absurd (no_got (sym x))
-  flag_none (got zero t) P.Fault x = absurd (no_got x)
-  flag_none (got zero t) (P.At j) x = rw (same_rest x)
-  flag_none (got (suc zero) t) P.Fault x = absurd (no_got x)
-  flag_none (got (suc zero) t) (P.At j) x = absurd (let z : ◌≡◌ {A = ℕ} 0 1 = same_value x in let y : ⊥ = omega arith in y)
-  flag_none (got (suc (suc n)) t) P.Fault x = refl
-  flag_none (got (suc (suc n)) t) (P.At j) x = absurd (no_got (sym (x ∙ rw (le-leb 0 (suc (suc n)) (omega arith), lt-leb (suc (suc n)) 1 (omega arith)))))
+  flag_none fault None x = refl
+  flag_none fault (Some j) x = absurd (no_got (sym x))
+  flag_none (got zero t) None x = absurd (no_got x)
+  flag_none (got zero t) (Some j) x = rw (same_rest x)
+  flag_none (got (suc zero) t) None x = absurd (no_got x)
+  flag_none (got (suc zero) t) (Some j) x = absurd (let z : ◌≡◌ {A = ℕ} 0 1 = same_value x in let y : ⊥ = omega arith in y)
+  flag_none (got (suc (suc n)) t) None x = refl
+  flag_none (got (suc (suc n)) t) (Some j) x = absurd (no_got (sym (x ∙ rw (le-leb 0 (suc (suc n)) (omega arith), lt-leb (suc (suc n)) 1 (omega arith)))))
 
-  flag_some : (r : Read ℕ) (v : ℕ) (q k : Place) (a : A) → (v ≡ 0 → ⊥) → got_at s q v ≡ flagged r → got_at s k a ≡ read_at f s q → got_at s k (some a) ≡ opened r
+  flag_some : (r : Read ℕ) (v : ℕ) (q k : Place) (a : A) → (v ≡ 0 → ⊥) → got_at s q v ≡ flagged r → got_at s k a ≡ read_at f s q → got_at s k (Some a) ≡ opened r
   unfolding nothing never
-  flag_some fault v P.Fault P.Fault a n x y = refl
-  flag_some fault v P.Fault (P.At l) a n x y = absurd (no_got (sym y))
-  flag_some fault v (P.At j) k a n x y = absurd (no_got (sym x))
-  flag_some (got zero t) v P.Fault k a n x y = absurd (no_got x)
-  flag_some (got zero t) v (P.At j) k a n x y = absurd (n (same_value x))
-  flag_some (got (suc zero) t) v P.Fault k a n x y = absurd (no_got x)
-  flag_some (got (suc zero) t) v (P.At j) P.Fault a n x y = rw (← same_rest x, ← y)
-  flag_some (got (suc zero) t) v (P.At j) (P.At l) a n x y = rw (← same_rest x, ← y)
-  flag_some (got (suc (suc m)) t) v P.Fault P.Fault a n x y = refl
-  flag_some (got (suc (suc m)) t) v P.Fault (P.At l) a n x y = absurd (no_got (sym y))
-  flag_some (got (suc (suc m)) t) v (P.At j) k a n x y = absurd (no_got (sym (x ∙ rw (le-leb 0 (suc (suc m)) (omega arith), lt-leb (suc (suc m)) 1 (omega arith)))))
+  flag_some fault v None None a n x y = refl
+  flag_some fault v None (Some l) a n x y = absurd (no_got (sym y))
+  flag_some fault v (Some j) k a n x y = absurd (no_got (sym x))
+  flag_some (got zero t) v None k a n x y = absurd (no_got x)
+  flag_some (got zero t) v (Some j) k a n x y = absurd (n (same_value x))
+  flag_some (got (suc zero) t) v None k a n x y = absurd (no_got x)
+  flag_some (got (suc zero) t) v (Some j) None a n x y = rw (← same_rest x, ← y)
+  flag_some (got (suc zero) t) v (Some j) (Some l) a n x y = rw (← same_rest x, ← y)
+  flag_some (got (suc (suc m)) t) v None None a n x y = refl
+  flag_some (got (suc (suc m)) t) v None (Some l) a n x y = absurd (no_got (sym y))
+  flag_some (got (suc (suc m)) t) v (Some j) k a n x y = absurd (no_got (sym (x ∙ rw (le-leb 0 (suc (suc m)) (omega arith), lt-leb (suc (suc m)) 1 (omega arith)))))
 
-  pub option_none : (p q : Place) (v : ℕ) → v ≡ 0 → got_at s q v ≡ read_at (range 0 1) s p → got_at {A = Option A} s q none ≡ read_at (option f) s p
+  pub option_none : (p q : Place) (v : ℕ) → v ≡ 0 → got_at s q v ≡ read_at (range 0 1) s p → got_at {A = Option A} s q None ≡ read_at (option f) s p
   unfolding option via tagged range only
-  option_none P.Fault P.Fault v e x = refl
-  option_none P.Fault (P.At j) v e x = absurd (no_got (sym x))
-  option_none (P.At i) q v e x = flag_none (number.read (drop i s)) q (rw e at x)
+  option_none None None v e x = refl
+  option_none None (Some j) v e x = absurd (no_got (sym x))
+  option_none (Some i) q v e x = flag_none (number.read (drop i s)) q (rw e at x)
 
-  pub option_some : (p q k : Place) (v : ℕ) (a : A) → (v ≡ 0 → ⊥) → got_at s q v ≡ read_at (range 0 1) s p → got_at s k a ≡ read_at f s q → got_at s k (some a) ≡ read_at (option f) s p
+  pub option_some : (p q k : Place) (v : ℕ) (a : A) → (v ≡ 0 → ⊥) → got_at s q v ≡ read_at (range 0 1) s p → got_at s k a ≡ read_at f s q → got_at s k (Some a) ≡ read_at (option f) s p
   unfolding option via tagged range only
-  option_some P.Fault P.Fault P.Fault v a n x y = refl
-  option_some P.Fault P.Fault (P.At l) v a n x y = absurd (no_got (sym y))
-  option_some P.Fault (P.At j) k v a n x y = absurd (no_got (sym x))
-  option_some (P.At i) q k v a n x y = flag_some (number.read (drop i s)) v q k a n x y
+  option_some None None None v a n x y = refl
+  option_some None None (Some l) v a n x y = absurd (no_got (sym y))
+  option_some None (Some j) k v a n x y = absurd (no_got (sym x))
+  option_some (Some i) q k v a n x y = flag_some (number.read (drop i s)) v q k a n x y
 
 -- ---- a list: items one by one onto those that are read
 
 module _ {A : Type 0} where
   abbrev pub onto : Format A → List A → ℕ → Bytes → Place → Read (List A)
-  onto f xs n s (P.At i) = and_then (read_items f n (drop i s)) (λ qs t. got (xs ++ qs) t)
-  onto f xs n s P.Fault = fault
+  onto f xs n s (Some i) = and_then (read_items f n (drop i s)) (λ qs t. got (xs ++ qs) t)
+  onto f xs n s None = fault
 
   -- k of n items are read, as the first of v, and what is left gives the whole
   pub record Listed (f : Format A) (s : Bytes) (all : Read (List A)) (n k : ℕ) (p : Place) (v : ℕ → A) : Type 0 where
@@ -199,22 +191,22 @@ module _ {A : Type 0} where
   module _ (f : Format A) (s : Bytes) where
     onto_more : (xs : List A) (n : ℕ) (p q : Place) (a : A) → got_at s q a ≡ read_at f s p → onto f xs (suc n) s p ≡ onto f (xs ++ (a ∷ [])) n s q
     unfolding read_items
-    onto_more xs n P.Fault P.Fault a x = refl
-    onto_more xs n P.Fault (P.At j) a x = absurd (no_got (sym x))
-    onto_more xs n (P.At i) P.Fault a x = rw (← x)
-    onto_more xs n (P.At i) (P.At j) a x = rw (← x) (onto_one (read_items f n (drop j s)) xs a)
+    onto_more xs n None None a x = refl
+    onto_more xs n None (Some j) a x = absurd (no_got (sym x))
+    onto_more xs n (Some i) None a x = rw (← x)
+    onto_more xs n (Some i) (Some j) a x = rw (← x) (onto_one (read_items f n (drop j s)) xs a)
 
     onto_ends : (xs : List A) (p : Place) → onto f xs 0 s p ≡ got_at s p xs
     unfolding read_items
-    onto_ends xs P.Fault = refl
-    onto_ends xs (P.At i) = rw append-nil
+    onto_ends xs None = refl
+    onto_ends xs (Some i) = rw append-nil
 
     counted_starts : (c : Format ℕ) (p q : Place) (n : ℕ) → got_at s q n ≡ read_at c s p → onto f [] n s q ≡ read_at (counted f c) s p
     unfolding counted
-    counted_starts c P.Fault P.Fault n x = refl
-    counted_starts c P.Fault (P.At j) n x = absurd (no_got (sym x))
-    counted_starts c (P.At i) P.Fault n x = rw (← x)
-    counted_starts c (P.At i) (P.At j) n x = rw (← x) (onto_none (read_items f n (drop j s)))
+    counted_starts c None None n x = refl
+    counted_starts c None (Some j) n x = absurd (no_got (sym x))
+    counted_starts c (Some i) None n x = rw (← x)
+    counted_starts c (Some i) (Some j) n x = rw (← x) (onto_none (read_items f n (drop j s)))
 
     pub listed_starts : (n : ℕ) (q : Place) (v : ℕ → A) → Listed f s (onto f [] n s q) n 0 q v
     unfolding list_to

@@ -1,7 +1,7 @@
 -- Words and lists of words, read into a row.
 use Prim.Native.Nat.{ℕ, ◌+◌, ◌≤◌, ◌<◌}
 use mathlib.Core.Path.{◌≡◌, ◌∙◌}
-use mathlib.Core.Logic.{inl}
+use mathlib.Core.Logic.{◌⊎◌, inl, inr}
 use mathlib.Core.List.{List, []}
 use native.Mathlib.Omega.{arith}
 use lib.ListN.{length, get_or, set}
@@ -10,47 +10,41 @@ use borrow.Author.Tests.{le-leb, lt-leb}
 use Rattle.codec.specs.Format.{Bytes, fault, only}
 use Rattle.codec.specs.Number.{number}
 use Rattle.codec.specs.Answers.{NumberRead}
-use Rattle.codec.specs.declared.Number.{Number}
-use Rattle.codec.specs.declared.Number.TheVariants as N
 use Rattle.map.specs.MapFile.{numbers}
 use Rattle.map.specs.Tables.{list_at}
-use Rattle.fields.specs.Fields.{read_at, Changed, range, largest, Word, Numbers}
-use Rattle.fields.specs.declared.Place.{Place}
-use Rattle.fields.specs.declared.Place.TheVariants as P
+use Rattle.fields.specs.Fields.{Place, read_at, Changed, range, largest, Word, Numbers}
+use Rattle.std.specs.Prelude.{Option, Some, None}
 use Rattle.fields.proofs.Places.{unchanged, changed_at, changed_both, range_any, onto, Listed, listed_starts, listed-all, listed_more, listed_ends}
 
 -- ---- one word
 
 module _ (least most : ℕ) (s : Bytes) (p : Place) (ws : List ℕ) (o : ℕ) (h : o < length ws) where
   -- nothing was read
-  lost : fault ≡ read_at (range least most) s p → Word least most s p ws o P.Fault (set ws o 0)
+  lost : fault ≡ read_at (range least most) s p → Word least most s p ws o None (set ws o 0)
   lost e = record { words = changed_at ws o 0; few = rw (get_or-set_same ws o 0 0 h) (omega arith); is = e }
 
-  pub word_none : p ≡ P.Fault → Word least most s p ws o P.Fault (set ws o 0)
+  pub word_none : p ≡ None → Word least most s p ws o None (set ws o 0)
   word_none e = lost (rw e)
 
-  module _ (i : ℕ) (e : p ≡ P.At i) (a : Number) (ea : NumberRead s i a) where
-    pub word_cut : a ≡ N.Fault → Word least most s p ws o P.Fault (set ws o 0)
+  module _ (i : ℕ) (e : p ≡ Some i) (a : Option (ℕ × ℕ)) (ea : NumberRead s i a) where
+    pub word_cut : a ≡ None → Word least most s p ws o None (set ws o 0)
     unfolding range only
     word_cut f = lost (rw (e, ← ea.read, f))
 
-    module _ (n next : ℕ) (fa : a ≡ N.Got n next) where
-      pub word_low : n < least → Word least most s p ws o P.Fault (set ws o 0)
+    module _ (n next : ℕ) (fa : a ≡ Some (n, next)) where
+      pub word_off : (n < least) ⊎ ((least ≤ n) × (most < n)) → Word least most s p ws o None (set ws o 0)
       unfolding range only
-      word_low l = lost (rw (e, ← ea.read, fa, lt-leb least n l))
+      word_off (inl l) = lost (rw (e, ← ea.read, fa, lt-leb least n l))
+      word_off (inr l) = lost (rw (e, ← ea.read, fa, le-leb least n l.0, lt-leb n most l.1))
 
-      pub word_high : least ≤ n → most < n → Word least most s p ws o P.Fault (set ws o 0)
-      unfolding range only
-      word_high l m = lost (rw (e, ← ea.read, fa, le-leb least n l, lt-leb n most m))
-
-      pub word_got : least ≤ n → n ≤ most → Word least most s p ws o (P.At next) (set (set ws o 0) o n)
+      pub word_got : least ≤ n → n ≤ most → Word least most s p ws o (Some next) (set (set ws o 0) o n)
       unfolding range only
       word_got l m =
           let v : get_or (set ws o n) o 0 ≡ n = get_or-set_same ws o n 0 h in
           rw (set-set ws o 0 n)
           (record { words = changed_at ws o n; few = rw v m; is = rw (v, e, ← ea.read, fa, le-leb least n l, le-leb n most m) })
 
-pub ruleset reading_word = (word_none, word_cut, word_low, word_high, word_got)
+pub ruleset reading_word = (word_none, word_cut, word_off, word_got)
 
 -- ---- a list of words
 

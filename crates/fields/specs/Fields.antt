@@ -1,5 +1,5 @@
 -- Where a reader stands, and what it has put into a row. A row is a list of words and a list of coordinates.
-use Rattle.std.specs.Prelude.{ℕ, ◌+◌, ◌≤◌, ◌<◌, ◌≡◌, ◌⊎◌, true, ◌&&◌, List, leb, Float, length, get_or, drop}
+use Rattle.std.specs.Prelude.{ℕ, ◌+◌, ◌≤◌, ◌<◌, ◌≡◌, ◌⊎◌, true, ◌&&◌, List, leb, Float, length, get_or, drop, Option, Some, None}
 use Rattle.std.specs.Float.{nan}
 use Rattle.codec.specs.Format.{Bytes, Read, fault, got, Format, only}
 use Rattle.codec.specs.Number.{number}
@@ -8,18 +8,20 @@ use Rattle.codec.specs.Items.{list, option}
 use Rattle.map.specs.Record.{Bulb}
 use Rattle.map.specs.MapFile.{height, polyline, numbers, bulb}
 use Rattle.map.specs.Tables.{flag_at, option_at, list_at, point_from, line_at, bulb_at}
-use Rattle.fields.specs.declared.Place.{Place}
-use Rattle.fields.specs.declared.Place.TheVariants as P
+
+-- where a reader stands: a place in the bytes, or none after a fault
+abbrev pub Place : Type 0
+Place = Option ℕ
 
 -- what a format reads from a place on: after a fault there is nothing to read
 abbrev pub read_at : {A : Type 0} → Format A → Bytes → Place → Read A
-read_at f s (P.At i) = f.read (drop i s)
-read_at f s P.Fault = fault
+read_at f s (Some i) = f.read (drop i s)
+read_at f s None = fault
 
 -- a value, and the place after it
 abbrev pub got_at : {A : Type 0} → Bytes → Place → A → Read A
-got_at s (P.At i) a = got a (drop i s)
-got_at s P.Fault a = fault
+got_at s (Some i) a = got a (drop i s)
+got_at s None a = fault
 
 -- nothing has changed but the entries from a up to b
 pub record Changed {A : Type 0} (l : List A) (a b : ℕ) (l' : List A) : Type 0 where

@@ -2,7 +2,7 @@
 use Prim.Native.Nat.{ℕ, ◌+◌}
 use mathlib.Core.Path.{◌≡◌, refl}
 use mathlib.Core.Bool.{Bool, true, false, ◌&&◌}
-use mathlib.Core.Option.{none}
+use Rattle.std.specs.Prelude.{None}
 use mathlib.Core.List.{[], ◌∷◌, ◌++◌, map}
 use lib.ListN.{length, take, drop}
 use lib.Ieee.{neg}
@@ -24,7 +24,7 @@ abbrev worked : Map
 worked =
     record {
       next = 4;
-      lanes = record { num = 3; kind = 0; left = record { boundary = 1; reversed = false }; right = record { boundary = 2; reversed = false }; centerline = none } ∷ [];
+      lanes = record { num = 3; kind = 0; left = record { boundary = 1; reversed = false }; right = record { boundary = 2; reversed = false }; centerline = None } ∷ [];
       boundaries = record { num = 1; geometry = at3 f0 (whole 2) f0 ∷ at3 (whole 10) (whole 2) f0 ∷ [] }
           ∷ record { num = 2; geometry = at3 f0 (neg (whole 2)) f0 ∷ at3 (whole 10) (neg (whole 2)) f0 ∷ [] } ∷ [];
       stop_lines = [];

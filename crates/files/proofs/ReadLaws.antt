@@ -2,11 +2,11 @@
 use Prim.Native.Nat.{ℕ}
 use mathlib.Core.Path.{◌≡◌, refl, sym, ap, ◌∙◌}
 use mathlib.Core.Bool.{Bool, true, false}
-use mathlib.Core.Option.{Option, none, some}
 use mathlib.Core.List.{List, [], ◌++◌, append-nil}
 use lib.Ieee.{Float}
 use lib.ListN.{length}
 use borrow.Author.Tests.{eq-eqb, ne_eqb}
+use Rattle.std.proofs.Common.{Ok, Err}
 use Rattle.refusal.specs.Answer.{refused, done, present}
 use Rattle.refusal.specs.declared.Refusal.TheVariants.{BadMap}
 use Rattle.rows.specs.Table.{rising}
@@ -17,14 +17,12 @@ use Rattle.map.specs.Record.{Lane, LineString, Signal, Crosswalk, Rule, Map}
 use Rattle.map.specs.MapFile.{lane, line_string, signal, crosswalk, rule, table, tables, map_file, is_map}
 use Rattle.map.specs.Tables.{map_of}
 use Rattle.map.proofs.Parts.{map-parts}
-use Rattle.fields.specs.Fields.{got_at}
-use Rattle.fields.specs.declared.Place.{Place}
-use Rattle.fields.specs.declared.Place.TheVariants as P
+use Rattle.fields.specs.Fields.{Place, got_at}
+use Rattle.std.specs.Prelude.{Some, None, Option}
 use Rattle.mapfile.specs.MapBytes.{is_there, is_map_file}
 use Rattle.mapload.specs.MapLoad.{line_lists, MapLoaded}
 use Rattle.files.specs.Files.{read_map}
 use Rattle.files.specs.ReadInto.{MapReadInto}
-use Rattle.files.specs.declared.MapRead.TheVariants as R
 
 abbrev Loose : Type 0
 Loose = ℕ × (List Lane × (List LineString × (List LineString × (List Signal × (List Crosswalk × List Rule)))))
@@ -62,7 +60,7 @@ same_written : (m : Map) → map_file.write m ≡ loose.write (pieces m)
 unfolding map_file tables table only via tagged ◌⊗◌
 same_written m = refl
 
-loose_read : (s : Bytes) (m : Map) → file_of map_file s ≡ some m → loose.read s ≡ got (pieces m) []
+loose_read : (s : Bytes) (m : Map) → file_of map_file s ≡ Some m → loose.read s ≡ got (pieces m) []
 unfolding is_map
 loose_read s m e =
     let b = file_back map_file s m e in
@@ -70,8 +68,8 @@ loose_read s m e =
     ap (λ t. loose.read t) w ∙ loose.there (pieces m) [] (loose_fits m b.0)
 
 placed : (s : Bytes) (r : Place) (x y : Loose) → got_at s r x ≡ got y [] → x ≡ y
-placed s P.Fault x y h = absurd (no_got h)
-placed s (P.At j) x y h = same_value h
+placed s None x y h = absurd (no_got h)
+placed s (Some j) x y h = same_value h
 
 module _ (s : Bytes) where
   pub is_refused_lem : is_map_file s ≡ false → refused 12 [] ≡ read_map s
@@ -79,8 +77,8 @@ module _ (s : Bytes) where
   is_refused_lem h = go (file_of map_file s) h
     where
       go : (o : Option Map) → is_there o ≡ false → refused 12 [] ≡ present o 12 []
-      go none h = refl
-      go (some m) h = absurd (no_true (sym h))
+      go None h = refl
+      go (Some m) h = absurd (no_true (sym h))
 
   module _ (ws ws' : List ℕ) (cs cs' : List Float) (r : Place) (x : MapLoaded s ws cs r ws' cs') where
     pub is_done_lem : is_map_file s ≡ true → done (map_of ws' cs') ≡ read_map s
@@ -88,21 +86,21 @@ module _ (s : Bytes) where
     is_done_lem h = go (file_of map_file s) refl h
       where
         go : (o : Option Map) → file_of map_file s ≡ o → is_there o ≡ true → done (map_of ws' cs') ≡ present o 12 []
-        go none e h = absurd (no_true h)
-        go (some m) e h = ap (λ z. done (from_pieces z)) (placed s r _ (pieces m) (x.is ∙ loose_read s m e))
+        go None e h = absurd (no_true h)
+        go (Some m) e h = ap (λ z. done (from_pieces z)) (placed s r _ (pieces m) (x.is ∙ loose_read s m e))
 
 module _ (s : Bytes) (ws : List ℕ) (cs : List Float) where
-  pub words_wrong : (length ws ≡ 13671 → ⊥) → MapReadInto s ws cs (R.Refused BadMap) ws cs
+  pub words_wrong : (length ws ≡ 13671 → ⊥) → MapReadInto s ws cs (Err BadMap) ws cs
   words_wrong h = record { is = rw (ne_eqb (length ws) 13671 h); untouched = (refl, refl) }
 
-  pub coords_wrong : length ws ≡ 13671 → (length cs ≡ 105280 → ⊥) → MapReadInto s ws cs (R.Refused BadMap) ws cs
+  pub coords_wrong : length ws ≡ 13671 → (length cs ≡ 105280 → ⊥) → MapReadInto s ws cs (Err BadMap) ws cs
   coords_wrong e h = record { is = rw (eq-eqb (length ws) 13671 e, ne_eqb (length cs) 105280 h); untouched = (refl, refl) }
 
   module _ (lw : length ws ≡ 13671) (lc : length cs ≡ 105280) (good : Bool) (g : good ≡ is_map_file s) where
-    pub file_wrong : good ≡ false → MapReadInto s ws cs (R.Refused BadMap) ws cs
+    pub file_wrong : good ≡ false → MapReadInto s ws cs (Err BadMap) ws cs
     file_wrong h = record { is = rw (eq-eqb (length ws) 13671 lw, eq-eqb (length cs) 105280 lc) (is_refused_lem s (sym g ∙ h)); untouched = (refl, refl) }
 
-    pub file_right : (ws' : List ℕ) (cs' : List Float) (r : Place) → good ≡ true → MapLoaded s ws cs r ws' cs' → MapReadInto s ws cs R.Done ws' cs'
+    pub file_right : (ws' : List ℕ) (cs' : List Float) (r : Place) → good ≡ true → MapLoaded s ws cs r ws' cs' → MapReadInto s ws cs (Ok tt) ws' cs'
     file_right ws' cs' r h x = record { is = rw (eq-eqb (length ws) 13671 lw, eq-eqb (length cs) 105280 lc) (is_done_lem s ws ws' cs cs' r x (sym g ∙ h)); untouched = tt }
 
 pub ruleset reading_map = (words_wrong, coords_wrong, file_wrong, file_right)

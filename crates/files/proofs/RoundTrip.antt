@@ -2,7 +2,7 @@
 use Prim.Native.Nat.{ℕ}
 use mathlib.Core.Path.{◌≡◌}
 use mathlib.Core.Bool.{true}
-use mathlib.Core.Option.{Option, none, some}
+use Rattle.std.specs.Prelude.{Option, None, Some}
 use mathlib.Core.List.{[]}
 use Rattle.refusal.specs.Answer.{done, present}
 use Rattle.codec.specs.Format
@@ -13,9 +13,9 @@ use Rattle.changes.specs.ChangeSet.{ChangeSet}
 use Rattle.changes.specs.ChangeFile.{change_file, is_set}
 use Rattle.files.specs.Files.{read_map, read_changes}
 
-present_done : {A : Type 0} (o : Option A) (n : ℕ) (a : A) → present o n [] ≡ done a → o ≡ some a
-present_done none n a h = cc
-present_done (some b) n a h = cc
+present_done : {A : Type 0} (o : Option A) (n : ℕ) (a : A) → present o n [] ≡ done a → o ≡ Some a
+present_done None n a h = cc
+present_done (Some b) n a h = cc
 
 -- a map that is one is read back as it was written
 pub map_there : (m : Map) → is_map m ≡ true → read_map (map_file.write m) ≡ done m

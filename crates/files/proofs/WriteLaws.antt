@@ -9,13 +9,14 @@ use lib.Ieee.{Float}
 use lib.ListN.{length, drop}
 use lib.Seq.{sets-eq}
 use borrow.Author.Tests.{lt-ltb, le-ltb, ltb-false, leb-true}
+use Rattle.std.proofs.Common.{Ok, Err}
 use Rattle.refusal.specs.Answer.{Answer, refused, done, ◌>>◌, refuse_when}
 use Rattle.refusal.specs.declared.Refusal.TheVariants.{BadMap, BadSet, ShortBuffer}
 use Rattle.rows.proofs.Bools.{and_l, and_r, clash}
 use Rattle.codec.specs.Format.{Bytes}
 use Rattle.codec.proofs.Fits.{list_few}
-use Rattle.fields.specs.declared.Place.{Place}
-use Rattle.fields.specs.declared.Place.TheVariants as P
+use Rattle.fields.specs.Fields.{Place}
+use Rattle.std.specs.Prelude.{Some, None}
 use Rattle.putting.specs.Putting.{ahead, PutAt}
 use Rattle.putting.proofs.PutLaws.{lost_place, same_place}
 use Rattle.changes.specs.ChangeFile.{max_warnings, warning_form, warnings, change_file, is_set, lists_ok}
@@ -29,54 +30,53 @@ use Rattle.map.specs.Tables.{map_of, is_map_tables}
 use Rattle.map.proofs.SoundLaws.{sound}
 use Rattle.files.specs.Files.{put_in, write_map, write_changes}
 use Rattle.files.specs.WriteOut.{FileWritten, write_set, ChangesWritten, write_tables, MapWritten}
-use Rattle.files.specs.declared.Written.TheVariants as W
 
 -- ---- the size, and the form in its place
 
-module _ (form a b : Bytes) (q : Place) (x : PutAt form a (P.At 0) q b) where
-  lost : q ≡ P.Fault → 2 ^ 64 ≤ length form
+module _ (form a b : Bytes) (q : Place) (x : PutAt form a (Some 0) q b) where
+  lost : q ≡ None → 2 ^ 64 ≤ length form
   unfolding ahead
   lost e = go (ltb (0 + length form) (2 ^ 64)) refl (sym e ∙ x.next)
     where
-      go : (t : Bool) → ltb (0 + length form) (2 ^ 64) ≡ t → P.Fault ≡ cond t (P.At (0 + length form)) P.Fault → 2 ^ 64 ≤ length form
+      go : (t : Bool) → ltb (0 + length form) (2 ^ 64) ≡ t → None ≡ cond t (Some (0 + length form)) None → 2 ^ 64 ≤ length form
       go true z y = absurd (lost_place y)
       go false z y = omega (arith, ltb-false (0 + length form) (2 ^ 64) z)
 
-  sized : (n : ℕ) → q ≡ P.At n → n ≡ length form
+  sized : (n : ℕ) → q ≡ Some n → n ≡ length form
   unfolding ahead
   sized n e = go (ltb (0 + length form) (2 ^ 64)) (sym e ∙ x.next)
     where
-      go : (t : Bool) → P.At n ≡ cond t (P.At (0 + length form)) P.Fault → n ≡ length form
+      go : (t : Bool) → Some n ≡ cond t (Some (0 + length form)) None → n ≡ length form
       go true y = omega (arith, same_place y)
       go false y = absurd (lost_place (sym y))
 
   module _ (old : Bytes) where
-    too_long : length old < 2 ^ 64 → q ≡ P.Fault → refused 14 [] ≡ put_in form old
+    too_long : length old < 2 ^ 64 → q ≡ None → refused 14 [] ≡ put_in form old
     unfolding put_in
     too_long l e = rw (lt-ltb (length old) (length form) (omega (arith, lost e)))
 
-    too_short : (n : ℕ) → q ≡ P.At n → length old < n → refused 14 [] ≡ put_in form old
+    too_short : (n : ℕ) → q ≡ Some n → length old < n → refused 14 [] ≡ put_in form old
     unfolding put_in
     too_short n e l = rw (lt-ltb (length old) (length form) (omega (arith, sized n e)))
 
-    stands : (n : ℕ) → q ≡ P.At n → n ≤ length old → (r : Place) (new : Bytes) → PutAt form old (P.At 0) r new → done new ≡ put_in form old
+    stands : (n : ℕ) → q ≡ Some n → n ≤ length old → (r : Place) (new : Bytes) → PutAt form old (Some 0) r new → done new ≡ put_in form old
     unfolding put_in ahead
     stands n e l r new y =
         let s = sized n e in
-        let m : r ≡ P.At n = y.next ∙ sym x.next ∙ e in
+        let m : r ≡ Some n = y.next ∙ sym x.next ∙ e in
         let k : 0 + length form ≡ length form = omega arith in
         let z : new ≡ form ++ drop (length form) old = y.made 0 n refl m l ∙ (rw k at (sets-eq form old 0 (omega arith))) in
         rw (le-ltb (length old) (length form) (omega arith), z)
 
     -- the answer of a call that refuses nothing but a short buffer
     module _ (answer : Answer Bytes) (told : put_in form old ≡ answer) where
-      out_long : length old < 2 ^ 64 → q ≡ P.Fault → FileWritten answer form old (W.Refused ShortBuffer) old
+      out_long : length old < 2 ^ 64 → q ≡ None → FileWritten answer form old (Err ShortBuffer) old
       out_long l e = record { is = too_long l e ∙ told; left = refl }
 
-      out_short : (n : ℕ) → q ≡ P.At n → length old < n → FileWritten answer form old (W.Refused ShortBuffer) old
+      out_short : (n : ℕ) → q ≡ Some n → length old < n → FileWritten answer form old (Err ShortBuffer) old
       out_short n e l = record { is = too_short n e l ∙ told; left = refl }
 
-      out_written : (n : ℕ) → q ≡ P.At n → n ≤ length old → (r : Place) (new : Bytes) → PutAt form old (P.At 0) r new → FileWritten answer form old (W.Done n) new
+      out_written : (n : ℕ) → q ≡ Some n → n ≤ length old → (r : Place) (new : Bytes) → PutAt form old (Some 0) r new → FileWritten answer form old (Ok n) new
       out_written n e l r new y = record { is = stands n e l r new y ∙ told; left = sized n e }
 
 -- ---- a change set
@@ -97,7 +97,7 @@ set-counted t h =
     few w = let u = leb-true (length (warnings_at t 3076 (count_in t 3))) 160 (list_few max_warnings warning_form (change_set_of t).warnings w) in let v = length-warnings t 3076 (count_in t 3) in omega arith
 
 module _ (t : List ℕ) (old : Bytes) (p : Bool) (h : p ≡ is_set_in t) where
-  pub set_wrong : not p ≡ true → ChangesWritten t old (W.Refused BadSet) old
+  pub set_wrong : not p ≡ true → ChangesWritten t old (Err BadSet) old
   unfolding is_set_in write_changes
   set_wrong n = record { is = go (eqb (length t) set_words) (is_set (change_set_of t)) p h n; left = refl }
     where
@@ -122,14 +122,14 @@ module _ (t : List ℕ) (old : Bytes) (p : Bool) (h : p ≡ is_set_in t) where
     unfolding is_set_in write_changes
     told = rw (and_l (eqb (length t) set_words) _ good, and_r (eqb (length t) set_words) _ good)
 
-    module _ (a b : Bytes) (q : Place) (x : PutAt (change_file.write (change_set_of t)) a (P.At 0) q b) where
-      pub set_long : length old < 2 ^ 64 → q ≡ P.Fault → ChangesWritten t old (W.Refused ShortBuffer) old
+    module _ (a b : Bytes) (q : Place) (x : PutAt (change_file.write (change_set_of t)) a (Some 0) q b) where
+      pub set_long : length old < 2 ^ 64 → q ≡ None → ChangesWritten t old (Err ShortBuffer) old
       set_long l e = out_long _ a b q x old _ told l e
 
-      pub set_short : (n : ℕ) → q ≡ P.At n → length old < n → ChangesWritten t old (W.Refused ShortBuffer) old
+      pub set_short : (n : ℕ) → q ≡ Some n → length old < n → ChangesWritten t old (Err ShortBuffer) old
       set_short n e l = out_short _ a b q x old _ told n e l
 
-      pub set-written : (n : ℕ) → q ≡ P.At n → n ≤ length old → (r : Place) (new : Bytes) → PutAt (change_file.write (change_set_of t)) old (P.At 0) r new → ChangesWritten t old (W.Done n) new
+      pub set-written : (n : ℕ) → q ≡ Some n → n ≤ length old → (r : Place) (new : Bytes) → PutAt (change_file.write (change_set_of t)) old (Some 0) r new → ChangesWritten t old (Ok n) new
       set-written n e l r new y = out_written _ a b q x old _ told n e l r new y
 
 pub ruleset writing_set = (set_wrong, set_right, set_long, set_short, set-written)
@@ -137,7 +137,7 @@ pub ruleset writing_set = (set_wrong, set_right, set_long, set_short, set-writte
 -- ---- a map
 
 module _ (ws : List ℕ) (cs : List Float) (old : Bytes) (p : Bool) (h : p ≡ is_map_tables ws cs) where
-  pub map_wrong : not p ≡ true → MapWritten ws cs old (W.Refused BadMap) old
+  pub map_wrong : not p ≡ true → MapWritten ws cs old (Err BadMap) old
   unfolding is_map_tables write_map
   map_wrong n = record { is = go (eqb (length ws) all_words && eqb (length cs) all_coords) (is_map (map_of ws cs)) p h n; left = refl }
     where
@@ -162,14 +162,14 @@ module _ (ws : List ℕ) (cs : List Float) (old : Bytes) (p : Bool) (h : p ≡ i
     unfolding is_map_tables write_map
     map_told = rw (and_l (eqb (length ws) all_words && eqb (length cs) all_coords) _ map_good, and_r (eqb (length ws) all_words && eqb (length cs) all_coords) _ map_good)
 
-    module _ (a b : Bytes) (q : Place) (x : PutAt (map_file.write (map_of ws cs)) a (P.At 0) q b) where
-      pub map_long : length old < 2 ^ 64 → q ≡ P.Fault → MapWritten ws cs old (W.Refused ShortBuffer) old
+    module _ (a b : Bytes) (q : Place) (x : PutAt (map_file.write (map_of ws cs)) a (Some 0) q b) where
+      pub map_long : length old < 2 ^ 64 → q ≡ None → MapWritten ws cs old (Err ShortBuffer) old
       map_long l e = out_long _ a b q x old _ map_told l e
 
-      pub map_short : (n : ℕ) → q ≡ P.At n → length old < n → MapWritten ws cs old (W.Refused ShortBuffer) old
+      pub map_short : (n : ℕ) → q ≡ Some n → length old < n → MapWritten ws cs old (Err ShortBuffer) old
       map_short n e l = out_short _ a b q x old _ map_told n e l
 
-      pub map-written : (n : ℕ) → q ≡ P.At n → n ≤ length old → (r : Place) (new : Bytes) → PutAt (map_file.write (map_of ws cs)) old (P.At 0) r new → MapWritten ws cs old (W.Done n) new
+      pub map-written : (n : ℕ) → q ≡ Some n → n ≤ length old → (r : Place) (new : Bytes) → PutAt (map_file.write (map_of ws cs)) old (Some 0) r new → MapWritten ws cs old (Ok n) new
       map-written n e l r new y = out_written _ a b q x old _ map_told n e l r new y
 
 pub ruleset writing_map = (map_wrong, map_right, map_long, map_short, map-written)

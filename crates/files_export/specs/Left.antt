@@ -1,7 +1,8 @@
 -- What the exported functions leave: their code, 0 or the refusal's number, and the lent memory.
-use Rattle.std.specs.Prelude.{ℕ, ◌≡◌, List, [], ◌∷◌, Float, length}
+use Rattle.std.specs.Prelude.{ℕ, ◌≡◌, List, [], ◌∷◌, Float, length, Result, Ok, Err}
 use Rattle.refusal.specs.Refusal.{refusal_number}
 use Rattle.refusal.specs.Answer.{Answer, refused, done}
+use Rattle.refusal.specs.declared.Refusal.{Refusal}
 use Rattle.codec.specs.Format
 use Rattle.codec.specs.Format.{Bytes}
 use Rattle.map.specs.MapFile.{map_file}
@@ -13,8 +14,6 @@ use Rattle.tally_words.specs.Words.{tally_in}
 use Rattle.files.specs.ReadInto.{read_into, read_set}
 use Rattle.files.specs.OpenInto.{open_into}
 use Rattle.files.specs.WriteOut.{write_tables, write_set}
-use Rattle.files.specs.declared.Written.{Written}
-use Rattle.files.specs.declared.Written.TheVariants as W
 
 -- done: code 0, and the memory stands for the definition's result; refused: the refusal's number, and the memory is as it was
 abbrev pub Left : {A : Type 0} → Answer A → ℕ → A → Type 0 → Type 0
@@ -36,13 +35,13 @@ MapOpenedLeft s ws cs fs t r ws' cs' fs' t' =
 
 -- ---- writing
 
-abbrev pub code_of : Written → ℕ
-code_of (W.Done n) = 0
-code_of (W.Refused x) = refusal_number x
+abbrev pub code_of : {A : Type 0} → Result A Refusal → ℕ
+code_of (Ok a) = 0
+code_of (Err x) = refusal_number x
 
-abbrev pub size_of : Written → List ℕ → List ℕ
-size_of (W.Done n) size = n ∷ []
-size_of (W.Refused x) size = size
+abbrev pub size_of : Result ℕ Refusal → List ℕ → List ℕ
+size_of (Ok n) size = n ∷ []
+size_of (Err x) size = size
 
 -- done: what the buffer holds, and how many bytes of it are the file; refused: buffer and size as they were
 abbrev pub WriteLeft : Answer Bytes → Bytes → Bytes → List ℕ → ℕ → Bytes → List ℕ → Type 0

@@ -1,6 +1,6 @@
 -- Rows and tables that are loaded.
 use Prim.Native.Nat.{ℕ, zero, suc, ◌+◌, ◌-◌, ◌*◌, min, ◌≤◌, ◌<◌}
-use mathlib.Core.Path.{◌≡◌, refl, sym, ◌∙◌}
+use mathlib.Core.Path.{◌≡◌, sym, ◌∙◌}
 use mathlib.Core.Logic.{inl, inr, ⊎_elim}
 use mathlib.Core.List.{List, [], ◌++◌, append_assoc}
 use native.Mathlib.Omega.{arith}
@@ -10,93 +10,14 @@ use lib.Seq.{ext_get_or, length-take-le, take-length, take_all, drop-drop}
 use Rattle.rows.specs.Rows.{cut, pasted}
 use Rattle.rows.proofs.RowLaws.{side, get_or-cut, get_or_before, get_d_past, length-pasted, cut_start}
 use Rattle.codec.specs.Format.{Bytes}
-use Rattle.map.specs.MapFile.{lane, line_string, signal, crosswalk, rule}
-use Rattle.map.specs.Tables.{lane_in, line_string_in, signal_in, crosswalk_in, rule_in}
 use Rattle.store.specs.Layout.{limit_of, width_of, base_of, coord_width_of, coord_base_of, all_words, all_coords, place_of, coord_place_of, count_of, row_of, coords_of, records_of}
+use Rattle.store.proofs.KindLaws.{kind_below}
 use Rattle.store.proofs.StoreLaws.{row_ends, coords_end, open_place, open_coord_place}
 use native.Mathlib.Nat.{le_refl, suc-mul, mul-le-mul_right, min-le_left}
-use Rattle.fields.specs.Fields.{Changed, Word}
-use Rattle.fields.specs.declared.Place.{Place}
+use Rattle.fields.specs.Fields.{Place, Changed, Word}
 use Rattle.fields.proofs.Places.{unchanged, changed_both, onto, Listed, listed_starts, listed-all, listed_more, listed_ends}
 use Rattle.records.specs.Records.{record_form, record_in, RowRead}
 use Rattle.loading.specs.Loading.{RowLoaded, TableLoaded}
-
--- ---- a record by its kind
-
-module _ (s : Bytes) (p : Place) (k : ℕ) (ws : List ℕ) (cs : List Float) (r : Place) (ws' : List ℕ) (cs' : List Float) where
-  pub as_lane : k ≡ 0 → RowRead lane lane_in s p ws cs r ws' cs' → RowRead (record_form k) (record_in k) s p ws cs r ws' cs'
-  as_lane e x = rw e x
-
-  pub as_signal : k ≡ 3 → RowRead signal signal_in s p ws cs r ws' cs' → RowRead (record_form k) (record_in k) s p ws cs r ws' cs'
-  as_signal e x = rw e x
-
-  pub as_crosswalk : k ≡ 4 → RowRead crosswalk crosswalk_in s p ws cs r ws' cs' → RowRead (record_form k) (record_in k) s p ws cs r ws' cs'
-  as_crosswalk e x = rw e x
-
-  pub as_rule : k ≡ 5 → RowRead rule rule_in s p ws cs r ws' cs' → RowRead (record_form k) (record_in k) s p ws cs r ws' cs'
-  as_rule e x = rw e x
-
-pub as_line_string : (s : Bytes) (p : Place) (k : ℕ) (ws : List ℕ) (cs : List Float) (r : Place) (ws' : List ℕ) (cs' : List Float)
-    → k < 6 → (k ≡ 0 → ⊥) → (k ≡ 3 → ⊥) → (k ≡ 4 → ⊥) → (k ≡ 5 → ⊥) → RowRead line_string line_string_in s p ws cs r ws' cs' → RowRead (record_form k) (record_in k) s p ws cs r ws' cs'
-as_line_string s p zero ws cs r ws' cs' h a b c d x = absurd (a refl)
-as_line_string s p (suc zero) ws cs r ws' cs' h a b c d x = x
-as_line_string s p (suc (suc zero)) ws cs r ws' cs' h a b c d x = x
-as_line_string s p (suc (suc (suc zero))) ws cs r ws' cs' h a b c d x = absurd (b refl)
-as_line_string s p (suc (suc (suc (suc zero)))) ws cs r ws' cs' h a b c d x = absurd (c refl)
-as_line_string s p (suc (suc (suc (suc (suc zero))))) ws cs r ws' cs' h a b c d x = absurd (d refl)
-as_line_string s p (suc (suc (suc (suc (suc (suc k)))))) ws cs r ws' cs' h a b c d x = absurd (let z : ⊥ = omega arith in z)
-
--- the room of a row, by its kind
-module _ (k n : ℕ) where
-  pub lane_words : k ≡ 0 → width_of k ≤ n → 8 ≤ n
-  unfolding width_of
-  lane_words e h = rw e at h
-
-  pub lane_coords : k ≡ 0 → coord_width_of k ≤ n → 192 ≤ n
-  unfolding coord_width_of
-  lane_coords e h = rw e at h
-
-  pub signal_words : k ≡ 3 → width_of k ≤ n → 13 ≤ n
-  unfolding width_of
-  signal_words e h = rw e at h
-
-  pub signal_coords : k ≡ 3 → coord_width_of k ≤ n → 205 ≤ n
-  unfolding coord_width_of
-  signal_coords e h = rw e at h
-
-  pub crosswalk_words : k ≡ 4 → width_of k ≤ n → 5 ≤ n
-  unfolding width_of
-  crosswalk_words e h = rw e at h
-
-  pub crosswalk_coords : k ≡ 4 → coord_width_of k ≤ n → 576 ≤ n
-  unfolding coord_width_of
-  crosswalk_coords e h = rw e at h
-
-  pub rule_words : k ≡ 5 → width_of k ≤ n → 92 ≤ n
-  unfolding width_of
-  rule_words e h = rw e at h
-
-  pub rule_coords : k ≡ 5 → coord_width_of k ≤ n → 192 ≤ n
-  unfolding coord_width_of
-  rule_coords e h = rw e at h
-
-narrow : (k : ℕ) → k < 6 → (2 ≤ width_of k) × (192 ≤ coord_width_of k)
-unfolding width_of coord_width_of
-narrow zero h = (omega arith, omega arith)
-narrow (suc zero) h = (omega arith, omega arith)
-narrow (suc (suc zero)) h = (omega arith, omega arith)
-narrow (suc (suc (suc zero))) h = (omega arith, omega arith)
-narrow (suc (suc (suc (suc zero)))) h = (omega arith, omega arith)
-narrow (suc (suc (suc (suc (suc zero))))) h = (omega arith, omega arith)
-narrow (suc (suc (suc (suc (suc (suc k)))))) h = absurd (let y : ⊥ = omega arith in y)
-
-pub any_words : (k n : ℕ) → k < 6 → width_of k ≤ n → 2 ≤ n
-any_words k n h g = omega (arith, (narrow k h).0)
-
-pub any_coords : (k n : ℕ) → k < 6 → coord_width_of k ≤ n → 192 ≤ n
-any_coords k n h g = omega (arith, (narrow k h).1)
-
-pub ruleset reading_record = (as_lane, as_signal, as_crosswalk, as_rule, as_line_string, lane_words, lane_coords, signal_words, signal_coords, crosswalk_words, crosswalk_coords, rule_words, rule_coords, any_words, any_coords)
 
 -- ---- a part of a list that is lent and comes back
 
@@ -154,7 +75,7 @@ module _ (s : Bytes) (p : Place) (k i : ℕ) (ws : List ℕ) (cs : List Float) (
         is = rw (← ea, ← ew, ← ec, ← ev, part_here ws row a w fw gw, part_here cs xs c v fc gc) x.is;
       })
 
-pub ruleset loading_row = (row_got, row_fits, coord_row_fits)
+pub ruleset loading_row = (row_fits, coord_row_fits, kind_below)
 
 -- ---- a table
 
@@ -193,30 +114,36 @@ base_high (suc (suc (suc (suc zero)))) h = omega arith
 base_high (suc (suc (suc (suc (suc zero))))) h = omega arith
 base_high (suc (suc (suc (suc (suc (suc k)))))) h = absurd (let y : ⊥ = omega arith in y)
 
-module _ (s : Bytes) (p : Place) (k : ℕ) (old ws₀ : List ℕ) (cs₀ : List Float) (q₀ : Place) (most : ℕ) (x : Word 0 most s p old (1 + k) q₀ ws₀) (e : most ≡ limit_of k) (h : k < 6) where
-  pub filling_starts : length old ≡ all_words → length cs₀ ≡ all_coords → Filling s k ws₀ cs₀ q₀ (get_or ws₀ (1 + k) 0) ws₀ cs₀ q₀ 0
-  filling_starts lw lc =
-      record {
+module _ (s : Bytes) (p : Place) (k at : ℕ) (old ws₀ : List ℕ) (cs₀ : List Float) (q₀ : Place) (most : ℕ) (x : Word 0 most s p old at q₀ ws₀) (ea : at ≡ 1 + k) (e : most ≡ limit_of k) (h : k < 6) where
+  counted : Word 0 most s p old (1 + k) q₀ ws₀
+  counted = rw ea at x
+
+  pub filling_starts : length old ≡ all_words → length cs₀ ≡ all_coords → Filling s k ws₀ cs₀ q₀ (get_or ws₀ at 0) ws₀ cs₀ q₀ 0
+  filling_starts lw lc = rw ea
+      (record {
         kind = h;
-        low = omega (arith, x.few);
+        low = omega (arith, counted.few);
         long = x.words.long ∙ lw;
         coords_long = lc;
         words = unchanged ws₀ (base_of k) (base_of k + limit_of k * width_of k);
         coords = unchanged cs₀ (coord_base_of k) (coord_base_of k + limit_of k * coord_width_of k);
         items = listed_starts (record_form k) s (get_or ws₀ (1 + k) 0) q₀ (λ j. record_in k (row_of ws₀ k j) (coords_of cs₀ k j));
-      }
+      })
 
-  pub filling_ends : (ws : List ℕ) (cs : List Float) (q : Place) (i : ℕ) → Filling s k ws₀ cs₀ q₀ (get_or ws₀ (1 + k) 0) ws cs q i → get_or ws₀ (1 + k) 0 ≤ i → TableLoaded s p k old cs₀ q ws cs
+  all_loaded : (ws : List ℕ) (cs : List Float) (q : Place) (i : ℕ) → Filling s k ws₀ cs₀ q₀ (get_or ws₀ (1 + k) 0) ws cs q i → get_or ws₀ (1 + k) 0 ≤ i → TableLoaded s p k old cs₀ q ws cs
   unfolding records_of count_of
-  filling_ends ws cs q i w g =
+  all_loaded ws cs q i w g =
       let c : get_or ws (1 + k) 0 ≡ get_or ws₀ (1 + k) 0 = w.words.kept 0 (1 + k) (inl (omega (arith, base_high k h))) in
       record {
-        long = w.words.long ∙ x.words.long;
-        words = λ j u v. w.words.kept 0 j u ∙ x.words.kept 0 j (⊎_elim (λ (y : j < 1 + k). inl y) (λ (y : 1 + k < j). inr (omega arith)) (side j (1 + k) v));
+        long = w.words.long ∙ counted.words.long;
+        words = λ j u v. w.words.kept 0 j u ∙ counted.words.kept 0 j (⊎_elim (λ (y : j < 1 + k). inl y) (λ (y : 1 + k < j). inr (omega arith)) (side j (1 + k) v));
         coords = w.coords;
-        few = omega (arith, c, x.few);
-        is = rw c (listed_ends (record_form k) s _ (get_or ws₀ (1 + k) 0) i q _ w.items g ∙ listed-all (record_form k) s (limit_of k) (get_or ws₀ (1 + k) 0) p q₀ (rw e at x.is));
+        few = omega (arith, c, counted.few);
+        is = rw c (listed_ends (record_form k) s _ (get_or ws₀ (1 + k) 0) i q _ w.items g ∙ listed-all (record_form k) s (limit_of k) (get_or ws₀ (1 + k) 0) p q₀ (rw e at counted.is));
       }
+
+  pub filling_ends : (ws : List ℕ) (cs : List Float) (q : Place) (i : ℕ) → Filling s k ws₀ cs₀ q₀ (get_or ws₀ at 0) ws cs q i → get_or ws₀ at 0 ≤ i → TableLoaded s p k old cs₀ q ws cs
+  filling_ends ws cs q i w g = all_loaded ws cs q i (rw ea at w) (rw ea at g)
 
 module _ (s : Bytes) (k : ℕ) (ws₀ : List ℕ) (cs₀ : List Float) (q₀ : Place) (n : ℕ) (ws : List ℕ) (cs : List Float) (q : Place) (i : ℕ) (w : Filling s k ws₀ cs₀ q₀ n ws cs q i) (h : i < n) where
   pub filling_row : i < limit_of k
@@ -244,4 +171,4 @@ module _ (s : Bytes) (k : ℕ) (ws₀ : List ℕ) (cs₀ : List Float) (q₀ : P
         items = listed_more (record_form k) s _ n i q _ w.items q' (λ j. record_in k (row_of ws' k j) (coords_of cs' k j)) h same x.is;
       }
 
-pub ruleset loading_table = (filling_starts, filling_row, filling_more, filling_ends)
+pub ruleset loading_table = (filling_starts, filling_row, filling_more, filling_ends, kind_below)

@@ -3,8 +3,7 @@ use Rattle.std.specs.Prelude.{ℕ, ◌+◌, ◌*◌, ◌≤◌, ◌<◌, ◌⊎�
 use Rattle.codec.specs.Format.{Bytes}
 use Rattle.codec.specs.Items.{list}
 use Rattle.store.specs.Layout.{limit_of, width_of, base_of, coord_width_of, coord_base_of, place_of, coord_place_of, count_of, row_of, coords_of, records_of}
-use Rattle.fields.specs.Fields.{read_at, got_at, Changed}
-use Rattle.fields.specs.declared.Place.{Place}
+use Rattle.fields.specs.Fields.{Place, read_at, got_at, Changed}
 use Rattle.records.specs.Records.{record_form, record_in}
 
 -- row i of kind k holds what was read, and nothing else has changed

@@ -1,66 +1,63 @@
-// Records of any kind, read from a file's bytes into the tables.
+// Records of any kind, read from a file's bytes into the tables: two slices, words and coords, because C lends two. The writer goes
+// through the kinds likewise, but calls other functions: nothing but the match is shared.
 #![tactic(auto)]
 
 ghost use Rattle.std.specs.Prelude.{◌≡◌, ◌+◌, ◌≤◌, ◌<◌, length};
+ghost use Rattle.store.specs.Kinds.{kind_number};
 ghost use Rattle.store.specs.Layout.{limit_of, width_of, coord_width_of, all_words, all_coords};
 ghost use Rattle.records.specs.Records.{record_form, record_in, RowRead};
 ghost use Rattle.loading.specs.Loading.{RowLoaded, TableLoaded};
 
 use fields::Place;
-use store::layout;
+use store::Kind;
 
-// A record of kind k into a row. Kinds: 0 lane, 1 boundary, 2 stop line, 3 signal, 4 crosswalk,
-// 5 rule.
-pub fn read_record(s: &[u8], p: Place, k: usize, words: &mut [u64], coords: &mut [f64]) -> Place
-    requires { (k < 6) × (width_of k ≤ length words.old) × (coord_width_of k ≤ length coords.old) }
-    ensures { RowRead (record_form k) (record_in k) s.now p words.old coords.old result words.new coords.new }
+// A record of kind k into a row.
+#[tactic(auto, unfolding(store::specs::Layout::width_of, store::specs::Layout::coord_width_of))]
+pub fn read_record(s: &[u8], p: Place, k: Kind, words: &mut [u64], coords: &mut [f64]) -> Place
+    requires { (width_of (kind_number k) ≤ length words.old) × (coord_width_of (kind_number k) ≤ length coords.old) }
+    ensures { RowRead (record_form (kind_number k)) (record_in (kind_number k)) s.now p words.old coords.old result words.new coords.new }
 {
-    if k == 0 {
-        return records::read_lane(s, p, words, coords);
+    match k {
+        Kind::Lane => records::read_lane(s, p, words, coords),
+        Kind::Boundary | Kind::StopLine => records::read_line_string(s, p, words, coords),
+        Kind::Signal => records::read_signal(s, p, words, coords),
+        Kind::Crosswalk => records::read_crosswalk(s, p, words, coords),
+        Kind::Rule => records::read_rule(s, p, words, coords),
     }
-    if k == 3 {
-        return records::read_signal(s, p, words, coords);
-    }
-    if k == 4 {
-        return records::read_crosswalk(s, p, words, coords);
-    }
-    if k == 5 {
-        return records::read_rule(s, p, words, coords);
-    }
-    records::read_line_string(s, p, words, coords)
 }
 
 // A record into row i of its table.
+#[tactic(auto, using(crate::proofs::LoadLaws::loading_row))]
 pub fn load_row(
     s: &[u8],
     p: Place,
-    k: usize,
+    k: Kind,
     i: usize,
     words: &mut [u64],
     coords: &mut [f64],
 ) -> Place
-    requires { (k < 6) × (i < limit_of k) × (length words.old ≡ all_words) × (length coords.old ≡ all_coords) }
-    ensures { RowLoaded s.now p k i words.old coords.old result words.new coords.new }
+    requires { (i < limit_of (kind_number k)) × (length words.old ≡ all_words) × (length coords.old ≡ all_coords) }
+    ensures { RowLoaded s.now p (kind_number k) i words.old coords.old result words.new coords.new }
 {
-    let a = layout::place(k, i);
-    let e = a + layout::width(k);
-    let c = layout::coord_place(k, i);
-    let f = c + layout::coord_width(k);
+    let a = k.place(i);
+    let e = a + k.width();
+    let c = k.coord_place(i);
+    let f = c + k.coord_width();
     read_record(s, p, k, &mut words[a..e], &mut coords[c..f])
 }
 
 // A table: its count into its word, its records into its rows. A count past the room is a fault.
-pub fn load_table(s: &[u8], p: Place, k: usize, words: &mut [u64], coords: &mut [f64]) -> Place
-    requires { (k < 6) × (length words.old ≡ all_words) × (length coords.old ≡ all_coords) }
-    ensures { TableLoaded s.now p k words.old coords.old result words.new coords.new }
+#[tactic(auto, using(crate::proofs::LoadLaws::loading_table))]
+pub fn load_table(s: &[u8], p: Place, k: Kind, words: &mut [u64], coords: &mut [f64]) -> Place
+    requires { (length words.old ≡ all_words) × (length coords.old ≡ all_coords) }
+    ensures { TableLoaded s.now p (kind_number k) words.old coords.old result words.new coords.new }
 {
-    let most = layout::limit(k) as u64;
-    let mut q = fields::read_word(s, p, words, 1 + k, 0, most);
-    let n = words[1 + k] as usize;
-    let mut i: usize = 0;
-    while i < n {
+    let most = k.limit() as u64;
+    let at = k.count_at();
+    let mut q = fields::read_word(s, p, words, at, 0, most);
+    let n = words[at] as usize;
+    for i in 0..n {
         q = load_row(s, q, k, i, words, coords);
-        i += 1;
     }
     q
 }

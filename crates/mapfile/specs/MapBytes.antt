@@ -1,19 +1,16 @@
 -- Whether bytes are a map file, and the parts of the question.
-use Rattle.std.specs.Prelude.{ℕ, ◌+◌, ◌≤◌, ◌≡◌, Bool, true, false, List}
-use Rattle.std.proofs.Math.Option.{Option, none, some}
+use Rattle.std.specs.Prelude.{ℕ, ◌+◌, ◌≤◌, ◌≡◌, Bool, true, false, List, Option, None, Some}
 use Rattle.rows.specs.Lists.{total}
 use Rattle.codec.specs.Format.{Bytes, Format, ◌⊗◌, file_of}
 use Rattle.map.specs.Record.{Lane, LineString, Signal, Crosswalk, Rule}
 use Rattle.map.specs.Ceilings.{lane_points, line_string_points, signal_points, crosswalk_points, rule_points, max_boundaries, max_stop_lines, max_signals, max_crosswalks, max_rules}
 use Rattle.map.specs.MapFile.{line_string, signal, crosswalk, rule, table, tables, map_file}
-use Rattle.fields.specs.Fields.{read_at, got_at}
-use Rattle.fields.specs.declared.Place.{Place}
-use Rattle.checking.specs.Checking.{seen}
-use Rattle.checking.specs.declared.Checked.{Checked}
+use Rattle.fields.specs.Fields.{Place, read_at, got_at}
+use Rattle.checking.specs.Checking.{Checked, end_of, points_of, seen}
 
 abbrev pub is_there : {A : Type 0} → Option A → Bool
-is_there none = false
-is_there (some a) = true
+is_there None = false
+is_there (Some a) = true
 
 -- the bytes are a map file
 unfoldable pub is_map_file : Bytes → Bool
@@ -37,13 +34,13 @@ abbrev pub table_points : List Lane × (List LineString × (List LineString × (
 table_points x = total lane_points x.0 + line_points x.1
 
 pub record MarksChecked (s : Bytes) (p : Place) (next : ℕ) (r : Checked) : Type 0 where
-  pub few : r.points ≤ 73728
-  pub is : got_at s r.place r.points ≡ seen mark_points (read_at (marks next) s p)
+  pub few : points_of r ≤ 73728
+  pub is : got_at s (end_of r) (points_of r) ≡ seen mark_points (read_at (marks next) s p)
 
 pub record LinesChecked (s : Bytes) (p : Place) (next : ℕ) (r : Checked) : Type 0 where
-  pub few : r.points ≤ 122880
-  pub is : got_at s r.place r.points ≡ seen line_points (read_at (lines next) s p)
+  pub few : points_of r ≤ 122880
+  pub is : got_at s (end_of r) (points_of r) ≡ seen line_points (read_at (lines next) s p)
 
 pub record TablesChecked (s : Bytes) (p : Place) (next : ℕ) (r : Checked) : Type 0 where
-  pub few : r.points ≤ 147456
-  pub is : got_at s r.place r.points ≡ seen table_points (read_at (tables next) s p)
+  pub few : points_of r ≤ 147456
+  pub is : got_at s (end_of r) (points_of r) ≡ seen table_points (read_at (tables next) s p)

@@ -4,69 +4,77 @@
 ghost use Rattle.std.specs.Prelude.{◌≡◌, ◌≤◌, length};
 ghost use Rattle.mapfile.specs.MapBytes.{is_map_file, MarksChecked, LinesChecked, TablesChecked};
 
-use checking::Checked;
 use fields::Place;
+use store::Kind;
 
-const LARGEST: u64 = 0xFFFF_FFFF_FFFF_FFFF;
-
-// The tables of signals, crosswalks and rules are passed over.
-fn check_marks(s: &[u8], p: Place, next: u64, row: &mut [u64], xs: &mut [f64]) -> Checked
+// The tables of signals, crosswalks and rules are passed over: the points of their records, and where the last ends. Bytes, place, next
+// number and room are handed on one by one: each call has a place of its own, and a struct of the rest would be lent as often as they are.
+#[tactic(auto, using(crate::proofs::MapLaws::checking_marks))]
+fn check_marks(
+    s: &[u8],
+    p: Place,
+    next: u64,
+    row: &mut [u64],
+    xs: &mut [f64],
+) -> Option<(u64, usize)>
     requires { (92 ≤ length row.old) × (576 ≤ length xs.old) }
     ensures { MarksChecked s.now p next result }
 {
-    let signals = checking::check_table(s, p, 3, next, row, xs);
-    let q = signals.place;
-    let crosswalks = checking::check_table(s, q, 4, next, row, xs);
-    let r = crosswalks.place;
-    let rules = checking::check_table(s, r, 5, next, row, xs);
-    let place = rules.place;
-    let points = signals.points + (crosswalks.points + rules.points);
-    Checked { points, place }
+    let (signals, q) = checking::check_table(s, p, Kind::Signal, next, row, xs)?;
+    let (crosswalks, r) = checking::check_table(s, Some(q), Kind::Crosswalk, next, row, xs)?;
+    let (rules, end) = checking::check_table(s, Some(r), Kind::Rule, next, row, xs)?;
+    Some((signals + (crosswalks + rules), end))
 }
 
 // The tables of boundaries and stop lines, and those after them.
-fn check_lines(s: &[u8], p: Place, next: u64, row: &mut [u64], xs: &mut [f64]) -> Checked
+#[tactic(auto, using(crate::proofs::MapLaws::checking_lines))]
+fn check_lines(
+    s: &[u8],
+    p: Place,
+    next: u64,
+    row: &mut [u64],
+    xs: &mut [f64],
+) -> Option<(u64, usize)>
     requires { (92 ≤ length row.old) × (576 ≤ length xs.old) }
     ensures { LinesChecked s.now p next result }
 {
-    let boundaries = checking::check_table(s, p, 1, next, row, xs);
-    let q = boundaries.place;
-    let stop_lines = checking::check_table(s, q, 2, next, row, xs);
-    let r = stop_lines.place;
-    let marks = check_marks(s, r, next, row, xs);
-    let place = marks.place;
-    let points = boundaries.points + (stop_lines.points + marks.points);
-    Checked { points, place }
+    let (boundaries, q) = checking::check_table(s, p, Kind::Boundary, next, row, xs)?;
+    let (stop_lines, r) = checking::check_table(s, Some(q), Kind::StopLine, next, row, xs)?;
+    let (marks, end) = check_marks(s, Some(r), next, row, xs)?;
+    Some((boundaries + (stop_lines + marks), end))
 }
 
 // The six tables are passed over.
-fn check_tables(s: &[u8], p: Place, next: u64, row: &mut [u64], xs: &mut [f64]) -> Checked
+#[tactic(auto, using(crate::proofs::MapLaws::checking_tables))]
+fn check_tables(
+    s: &[u8],
+    p: Place,
+    next: u64,
+    row: &mut [u64],
+    xs: &mut [f64],
+) -> Option<(u64, usize)>
     requires { (92 ≤ length row.old) × (576 ≤ length xs.old) }
     ensures { TablesChecked s.now p next result }
 {
-    let lanes = checking::check_table(s, p, 0, next, row, xs);
-    let q = lanes.place;
-    let lines = check_lines(s, q, next, row, xs);
-    let place = lines.place;
-    let points = lanes.points + lines.points;
-    Checked { points, place }
+    let (lanes, q) = checking::check_table(s, p, Kind::Lane, next, row, xs)?;
+    let (lines, end) = check_lines(s, Some(q), next, row, xs)?;
+    Some((lanes + lines, end))
 }
 
 // Whether the bytes are a map file. Row and coordinates are room to read into.
+#[tactic(auto, using(crate::proofs::MapLaws::checking_map))]
 pub fn check_map(s: &[u8], row: &mut [u64], xs: &mut [f64]) -> bool
     requires { (92 ≤ length row.old) × (576 ≤ length xs.old) }
     ensures { result ≡ is_map_file s.now }
 {
-    let p = fields::read_word(s, Place::At(0), row, 0, 0, LARGEST);
+    let p = fields::read_word(s, Some(0), row, 0, 0, u64::MAX);
     let next = row[0];
-    let all = check_tables(s, p, next, row, xs);
-    let place = all.place;
-    let Place::At(end) = place else {
+    let Some((points, end)) = check_tables(s, p, next, row, xs) else {
         return false;
     };
     // bytes left over
     if end < s.len() {
         return false;
     }
-    all.points <= 1024
+    points <= 1024
 }

@@ -14,9 +14,8 @@ use Rattle.map.specs.MapFile.{lane, line_string, signal, crosswalk, rule}
 use Rattle.map.specs.Tables.{lane_in, line_string_in, signal_in, crosswalk_in}
 use Rattle.store.specs.Layout.{limit_of, width_of, base_of, coord_width_of, coord_base_of, place_of, coord_place_of, next_of, count_of, row_of, coords_of, records_of}
 use Rattle.store.proofs.StoreLaws.{open_place, open_coord_place}
-use Rattle.fields.specs.Fields.{largest, Word}
-use Rattle.fields.specs.declared.Place.{Place}
-use Rattle.fields.specs.declared.Place.TheVariants as P
+use Rattle.fields.specs.Fields.{Place, largest, Word}
+use Rattle.std.specs.Prelude.{Some}
 use Rattle.fields.proofs.Places.{place_then, range_any}
 use Rattle.loading.specs.Loading.{TableLoaded}
 use Rattle.loading.proofs.LoadLaws.{cut_same, rows_lie}
@@ -105,14 +104,14 @@ pub ruleset loading_marks = (marks_loaded)
 
 pub ruleset loading_lines = (lines_loaded)
 
-pub map_loaded : (s : Bytes) (q r t : Place) (w w1 w2 w3 : List ℕ) (c c2 c3 : List Float) → Word 0 largest s (P.At 0) w 0 q w1 → TableLoaded s q 0 w1 c r w2 c2 → LinesLoaded s r w2 c2 t w3 c3 → MapLoaded s w c t w3 c3
+pub map_loaded : (s : Bytes) (q r t : Place) (w w1 w2 w3 : List ℕ) (c c2 c3 : List Float) → Word 0 largest s (Some 0) w 0 q w1 → TableLoaded s q 0 w1 c r w2 c2 → LinesLoaded s r w2 c2 t w3 c3 → MapLoaded s w c t w3 c3
 unfolding limit_of next_of
 map_loaded s q r t w w1 w2 w3 c c2 c3 x y z =
     let b0 = before_then 0 w1 w2 w3 c c2 c3 (omega arith) (before_table s q 0 w1 c r w2 c2 (omega arith) y) z.before in
     record {
       long = b0.long ∙ x.words.long;
       coords_long = b0.coords_long;
-      is = place_then number (list 64 lane ⊗ line_lists) s (P.At 0) q t _ _ (rw (b0.head 0 (omega arith)) (x.is ∙ range_any s (P.At 0)))
+      is = place_then number (list 64 lane ⊗ line_lists) s (Some 0) q t _ _ (rw (b0.head 0 (omega arith)) (x.is ∙ range_any s (Some 0)))
           (place_then (list 64 lane) line_lists s q r t _ _ (rw (records_stay lane_in 0 w2 w3 c2 c3 (omega arith) y.few z.before) y.is) z.is);
     }
 

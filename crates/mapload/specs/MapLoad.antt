@@ -8,8 +8,7 @@ use Rattle.map.specs.Record.{LineString, Signal, Crosswalk, Rule}
 use Rattle.map.specs.MapFile.{lane, line_string, signal, crosswalk, rule}
 use Rattle.map.specs.Tables.{lane_in, line_string_in, signal_in, crosswalk_in, rule_in}
 use Rattle.store.specs.Layout.{base_of, coord_base_of, next_of, records_of}
-use Rattle.fields.specs.Fields.{read_at, got_at}
-use Rattle.fields.specs.declared.Place.{Place}
+use Rattle.fields.specs.Fields.{Place, read_at, got_at}
 
 -- the tables before table m, and the next number, are as they were
 pub record Before (m : ℕ) (ws : List ℕ) (cs : List Float) (ws' : List ℕ) (cs' : List Float) : Type 0 where

@@ -2,7 +2,7 @@
 use Prim.Native.Nat.{ℕ, zero, suc, ◌+◌, ◌≤◌, ◌<◌}
 use mathlib.Core.Path.{◌≡◌, refl}
 use mathlib.Core.Bool.{not, cond}
-use mathlib.Core.Option.{none, some}
+use Rattle.std.specs.Prelude.{None, Some}
 use mathlib.Core.List.{List, ◌++◌}
 use native.Mathlib.Omega.{arith}
 use lib.Dec.{eqb}
@@ -14,7 +14,7 @@ use Rattle.codec.specs.Number.{number}
 use Rattle.codec.specs.Items.{below, from, list, flag, option}
 use Rattle.map.specs.MapFile.{polyline, height, boundary_ref, numbers, lane, line_string, signal, bulb, crosswalk, body, rule}
 use Rattle.map.specs.Tables.{flag_at, list_at, line_at, lane_in, line_string_in, bulb_at, signal_in, crosswalk_in, body_of, rule_in}
-use Rattle.fields.specs.declared.Place.{Place}
+use Rattle.fields.specs.Fields.{Place}
 use Rattle.records.specs.Records.{side_at, light_in, sign_in, right_of_way_in, crossing_in}
 use Rattle.putting.specs.Putting.{PutAt}
 use Rattle.putting.proofs.PutLaws.{put_then}
@@ -23,10 +23,10 @@ use Rattle.mapput.specs.MapPut.{kind_in, fields_form}
 
 -- the forms of fields as the code writes them
 abbrev option_line : ℕ → ℕ → List Float → ℕ → Bytes
-option_line there n cs c = (option polyline).write (cond (not (eqb there 0)) (some (line_at cs c n)) none)
+option_line there n cs c = (option polyline).write (cond (not (eqb there 0)) (Some (line_at cs c n)) None)
 
 abbrev option_number : ℕ → ℕ → Bytes
-option_number there n = (option number).write (cond (not (eqb there 0)) (some n) none)
+option_number there n = (option number).write (cond (not (eqb there 0)) (Some n) None)
 
 abbrev numbers_from : ℕ → List ℕ → ℕ → Bytes
 numbers_from n ws from = numbers.write (entries_in ws from n)
@@ -62,7 +62,7 @@ module _ (ws : List ℕ) (cs : List Float) (o o1 o2 : Bytes) (p p1 p2 : Place) w
         lane_put x y z w v = put_then _ _ o o1 o5 p p1 p5 x (put_then _ _ o1 o2 o5 p1 p2 p5 y (put_then _ _ o2 o3 o5 p2 p3 p5 z (put_then _ _ o3 o4 o5 p3 p4 p5 w v)))
 
         pub signal_put : PutAt (number.write (get_or ws 0 0)) o p p1 o1 → PutAt (number.write (get_or ws 1 0)) o1 p1 p2 o2 → PutAt (polyline.write (line_at cs 0 (get_or ws 2 0))) o2 p2 p3 o3
-            → PutAt ((option height).write (cond (not (eqb (get_or ws 3 0) 0)) (some (get_or cs 192 nan)) none)) o3 p3 p4 o4 → PutAt ((list 4 bulb).write (list_to (bulb_at ws cs) (get_or ws 4 0))) o4 p4 p5 o5
+            → PutAt ((option height).write (cond (not (eqb (get_or ws 3 0) 0)) (Some (get_or cs 192 nan)) None)) o3 p3 p4 o4 → PutAt ((list 4 bulb).write (list_to (bulb_at ws cs) (get_or ws 4 0))) o4 p4 p5 o5
             → PutAt (signal.write (signal_in ws cs)) o p p5 o5
         unfolding signal signal_in via ◌⊗◌ below only flag_at
         signal_put x y z w v = put_then _ _ o o1 o5 p p1 p5 x (put_then _ _ o1 o2 o5 p1 p2 p5 y (put_then _ _ o2 o3 o5 p2 p3 p5 z (put_then _ _ o3 o4 o5 p3 p4 p5 w v)))

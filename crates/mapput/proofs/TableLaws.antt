@@ -1,6 +1,6 @@
 -- Records of any kind, tables and the map, written from the tables.
-use Prim.Native.Nat.{ℕ, zero, suc, ◌+◌, ◌-◌, ◌≤◌, ◌<◌}
-use mathlib.Core.Path.{◌≡◌, refl}
+use Prim.Native.Nat.{ℕ, ◌+◌, ◌-◌, ◌≤◌, ◌<◌}
+use mathlib.Core.Path.{◌≡◌}
 use mathlib.Core.List.{List}
 use native.Mathlib.Omega.{arith}
 use lib.Ieee.{Float}
@@ -10,42 +10,16 @@ use Rattle.rows.specs.Rows.{cut}
 use Rattle.codec.specs.Format.{Bytes, ◌⊗◌, via, only, tagged, counted}
 use Rattle.codec.specs.Number.{number}
 use Rattle.codec.specs.Items.{list}
-use Rattle.map.specs.MapFile.{lane, line_string, signal, crosswalk, rule, table, tables, map_file}
-use Rattle.map.specs.Tables.{lane_in, line_string_in, signal_in, crosswalk_in, rule_in, map_of}
+use Rattle.map.specs.MapFile.{table, tables, map_file}
+use Rattle.map.specs.Tables.{map_of}
 use Rattle.store.specs.Layout.{limit_of, width_of, coord_width_of, all_words, all_coords, place_of, coord_place_of, next_of, count_of, row_of, coords_of, records_of, Sized}
-use Rattle.fields.specs.declared.Place.{Place}
+use Rattle.store.proofs.KindLaws.{kind_below}
+use Rattle.fields.specs.Fields.{Place}
 use Rattle.records.specs.Records.{record_form, record_in}
-use Rattle.loading.proofs.LoadLaws.{lane_words, signal_words, crosswalk_words, rule_words, any_words, row_fits, coord_row_fits}
+use Rattle.loading.proofs.LoadLaws.{row_fits, coord_row_fits}
 use Rattle.putting.specs.Putting.{PutAt}
 use Rattle.putting.proofs.PutLaws.{put_then, Items, items_start, items_more, list_put}
 use Rattle.mapput.specs.MapPut.{marks_form}
-
--- ---- a record by its kind
-
-module _ (k : ℕ) (ws : List ℕ) (cs : List Float) (o o1 : Bytes) (p p1 : Place) where
-  pub as_lane : k ≡ 0 → PutAt (lane.write (lane_in ws cs)) o p p1 o1 → PutAt ((record_form k).write (record_in k ws cs)) o p p1 o1
-  as_lane e x = rw e x
-
-  pub as_signal : k ≡ 3 → PutAt (signal.write (signal_in ws cs)) o p p1 o1 → PutAt ((record_form k).write (record_in k ws cs)) o p p1 o1
-  as_signal e x = rw e x
-
-  pub as_crosswalk : k ≡ 4 → PutAt (crosswalk.write (crosswalk_in ws cs)) o p p1 o1 → PutAt ((record_form k).write (record_in k ws cs)) o p p1 o1
-  as_crosswalk e x = rw e x
-
-  pub as_rule : k ≡ 5 → PutAt (rule.write (rule_in ws cs)) o p p1 o1 → PutAt ((record_form k).write (record_in k ws cs)) o p p1 o1
-  as_rule e x = rw e x
-
-pub as_line_string : (k : ℕ) (ws : List ℕ) (cs : List Float) (o o1 : Bytes) (p p1 : Place) → k < 6 → (k ≡ 0 → ⊥) → (k ≡ 3 → ⊥) → (k ≡ 4 → ⊥) → (k ≡ 5 → ⊥)
-    → PutAt (line_string.write (line_string_in ws cs)) o p p1 o1 → PutAt ((record_form k).write (record_in k ws cs)) o p p1 o1
-as_line_string zero ws cs o o1 p p1 h a b c d x = absurd (a refl)
-as_line_string (suc zero) ws cs o o1 p p1 h a b c d x = x
-as_line_string (suc (suc zero)) ws cs o o1 p p1 h a b c d x = x
-as_line_string (suc (suc (suc zero))) ws cs o o1 p p1 h a b c d x = absurd (b refl)
-as_line_string (suc (suc (suc (suc zero)))) ws cs o o1 p p1 h a b c d x = absurd (c refl)
-as_line_string (suc (suc (suc (suc (suc zero))))) ws cs o o1 p p1 h a b c d x = absurd (d refl)
-as_line_string (suc (suc (suc (suc (suc (suc k)))))) ws cs o o1 p p1 h a b c d x = absurd (let z : ⊥ = omega arith in z)
-
-pub ruleset putting_record = (as_lane, as_signal, as_crosswalk, as_rule, as_line_string, lane_words, signal_words, crosswalk_words, rule_words, any_words)
 
 -- ---- a row
 
@@ -66,7 +40,7 @@ module _ (k i a w c v : ℕ) (ws : List ℕ) (cs : List Float) (hk : k < 6) (hi 
       let f : c + v - c ≡ v = omega arith in
       rw (← ea, ← ew, ← ec, ← ev) (rw (e, f) at x)
 
-pub ruleset putting_row = (row_long, row_put, row_fits, coord_row_fits)
+pub ruleset putting_row = (row_long, row_put, row_fits, coord_row_fits, kind_below)
 
 -- ---- a table
 
@@ -80,14 +54,13 @@ module _ (k : ℕ) (ws : List ℕ) (cs : List Float) (n : ℕ) where
   pub rowed_more : (old out new : Bytes) (p q r : Place) (i : ℕ) → Rowed k ws cs n old p out q i → i < n → PutAt ((record_form k).write (record_in k (row_of ws k i) (coords_of cs k i))) out q r new → Rowed k ws cs n old p new r (i + 1)
   rowed_more old out new p q r i x h y = record { items = items_more _ _ n old out new p q r i x.items h y }
 
-  module _ (e : n ≡ get_or ws (1 + k) 0) where
+  module _ (e : n ≡ count_of ws k) where
     pub rowed_end : (old mid new : Bytes) (p q r : Place) (i : ℕ) → PutAt (number.write n) old p q mid → Rowed k ws cs n mid q new r i → n ≤ i
         → PutAt ((list (limit_of k) (record_form k)).write (records_of (record_in k) ws cs k)) old p r new
-    unfolding records_of count_of
+    unfolding records_of
     rowed_end old mid new p q r i x y h = rw (← e) (list_put (record_form k) (limit_of k) _ n old mid new p q r i x y.items h)
 
     pub row_inside : k < 6 → Sized ws cs → (i : ℕ) → i < n → i < limit_of k
-    unfolding count_of
     row_inside hk s i h = omega (arith, s.words.counts k hk)
 
 pub words_long : (ws : List ℕ) (cs : List Float) → Sized ws cs → length ws ≡ all_words
@@ -96,10 +69,7 @@ words_long ws cs s = s.words.room
 pub coords_long : (ws : List ℕ) (cs : List Float) → Sized ws cs → length cs ≡ all_coords
 coords_long ws cs s = s.coords
 
-pub count_inside : (ws : List ℕ) (cs : List Float) (k : ℕ) → Sized ws cs → k < 6 → 1 + k < length ws
-count_inside ws cs k s h = omega (arith, s.words.room)
-
-pub ruleset putting_table = (rowed_start, rowed_more, rowed_end, row_inside, words_long, coords_long, count_inside)
+pub ruleset putting_table = (rowed_start, rowed_more, rowed_end, row_inside, words_long, coords_long, kind_below)
 
 -- ---- the map
 

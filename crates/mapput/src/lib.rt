@@ -1,4 +1,6 @@
-// The map's records, tables and file, written from the tables.
+// The map's records, tables and file, written from the tables. Words and coordinates are two slices, as C lends them, and the buffer goes with
+// the place in it, since that place is what is promised. Each record's fields are calls in a row: the laws differ with the record's form, and
+// a function for all would have to be handed them.
 #![tactic(auto)]
 
 ghost use Rattle.std.specs.Prelude.{◌≡◌, ◌+◌, ◌≤◌, ◌<◌, length};
@@ -7,13 +9,14 @@ ghost use Rattle.codec.specs.Number.{number};
 ghost use Rattle.codec.specs.Items.{from, list, option};
 ghost use Rattle.map.specs.MapFile.{polyline, boundary_ref, numbers, lane, line_string, signal, crosswalk, body, rule, map_file};
 ghost use Rattle.map.specs.Tables.{lane_in, line_string_in, signal_in, crosswalk_in, body_of, rule_in, map_of};
+ghost use Rattle.store.specs.Kinds.{kind_number};
 ghost use Rattle.store.specs.Layout.{limit_of, width_of, all_words, all_coords, row_of, coords_of, records_of, Sized};
 ghost use Rattle.records.specs.Records.{side_at, light_in, sign_in, right_of_way_in, crossing_in, record_form, record_in};
 ghost use Rattle.putting.specs.Putting.{PutAt};
 ghost use Rattle.mapput.specs.MapPut.{kind_in, fields_form, marks_form};
 
 use fields::Place;
-use store::layout;
+use store::Kind;
 
 // A lane's side: a boundary's number in word `o`, whether it is reversed after it.
 fn put_side(out: &mut [u8], p: Place, words: &[u64], o: usize) -> Place
@@ -103,43 +106,28 @@ fn put_crossing(out: &mut [u8], p: Place, words: &[u64]) -> Place
     putfields::put_numbers(out, lines, words[75], words, 76)
 }
 
-// The fields of a rule, by its kind; a kind that is none is another rule's, with the value 0.
+// The fields of a rule, by its kind: a word of its row, as any number may stand there. A kind that is none is another rule's, with the value 0.
 fn put_fields(out: &mut [u8], p: Place, kind: u64, words: &[u64], coords: &[f64]) -> Place
     requires { 92 ≤ length words.now }
     ensures { PutAt (fields_form (body_of kind words.now coords.now)) out.old p result out.new }
 {
-    if kind == 1 {
-        return put_light(out, p, words);
+    match kind {
+        1 => put_light(out, p, words),
+        2 => put_sign(out, p, words, coords),
+        3 => putting::put_number(out, p, words[4]),
+        4 => put_right_of_way(out, p, words),
+        5 => put_crossing(out, p, words),
+        6 => putting::put_number(out, p, words[2]),
+        _ => putting::put_number(out, p, 0),
     }
-    if kind == 2 {
-        return put_sign(out, p, words, coords);
-    }
-    if kind == 3 {
-        return putting::put_number(out, p, words[4]);
-    }
-    if kind == 4 {
-        return put_right_of_way(out, p, words);
-    }
-    if kind == 5 {
-        return put_crossing(out, p, words);
-    }
-    if kind == 6 {
-        return putting::put_number(out, p, words[2]);
-    }
-    putting::put_number(out, p, 0)
 }
 
 // A rule's kind as its file has it.
+#[tactic(auto, using(crate::proofs::RecordLaws::telling_kind))]
 fn kind_of(kind: u64) -> u64
     ensures { result ≡ kind_in kind }
 {
-    if kind == 0 {
-        return 6;
-    }
-    if 6 < kind {
-        return 6;
-    }
-    kind
+    if matches!(kind, 1..=5) { kind } else { 6 }
 }
 
 fn put_rule(out: &mut [u8], p: Place, words: &[u64], coords: &[f64]) -> Place
@@ -153,50 +141,42 @@ fn put_rule(out: &mut [u8], p: Place, words: &[u64], coords: &[f64]) -> Place
     putfields::put_numbers(out, controlled, words[24], words, 25)
 }
 
-// A record of kind k from its row. Kinds: 0 lane, 1 boundary, 2 stop line, 3 signal, 4 crosswalk,
-// 5 rule.
-fn put_record(out: &mut [u8], p: Place, k: usize, words: &[u64], coords: &[f64]) -> Place
-    requires { (k < 6) × (width_of k ≤ length words.now) }
-    ensures { PutAt ((record_form k).write (record_in k words.now coords.now)) out.old p result out.new }
+// A record of kind k from its row.
+#[tactic(auto, unfolding(store::specs::Layout::width_of))]
+fn put_record(out: &mut [u8], p: Place, k: Kind, words: &[u64], coords: &[f64]) -> Place
+    requires { (width_of (kind_number k) ≤ length words.now) }
+    ensures { PutAt ((record_form (kind_number k)).write (record_in (kind_number k) words.now coords.now)) out.old p result out.new }
 {
-    if k == 0 {
-        return put_lane(out, p, words, coords);
+    match k {
+        Kind::Lane => put_lane(out, p, words, coords),
+        Kind::Boundary | Kind::StopLine => put_line_string(out, p, words, coords),
+        Kind::Signal => put_signal(out, p, words, coords),
+        Kind::Crosswalk => put_crosswalk(out, p, words, coords),
+        Kind::Rule => put_rule(out, p, words, coords),
     }
-    if k == 3 {
-        return put_signal(out, p, words, coords);
-    }
-    if k == 4 {
-        return put_crosswalk(out, p, words, coords);
-    }
-    if k == 5 {
-        return put_rule(out, p, words, coords);
-    }
-    put_line_string(out, p, words, coords)
 }
 
 // Row i of its table.
-fn put_row(out: &mut [u8], p: Place, k: usize, i: usize, words: &[u64], coords: &[f64]) -> Place
-    requires { (k < 6) × (i < limit_of k) × (length words.now ≡ all_words) × (length coords.now ≡ all_coords) }
-    ensures { PutAt ((record_form k).write (record_in k (row_of words.now k i) (coords_of coords.now k i))) out.old p result out.new }
+fn put_row(out: &mut [u8], p: Place, k: Kind, i: usize, words: &[u64], coords: &[f64]) -> Place
+    requires { (i < limit_of (kind_number k)) × (length words.now ≡ all_words) × (length coords.now ≡ all_coords) }
+    ensures { PutAt ((record_form (kind_number k)).write (record_in (kind_number k) (row_of words.now (kind_number k) i) (coords_of coords.now (kind_number k) i))) out.old p result out.new }
 {
-    let a = layout::place(k, i);
-    let e = a + layout::width(k);
-    let c = layout::coord_place(k, i);
-    let f = c + layout::coord_width(k);
+    let a = k.place(i);
+    let e = a + k.width();
+    let c = k.coord_place(i);
+    let f = c + k.coord_width();
     put_record(out, p, k, &words[a..e], &coords[c..f])
 }
 
 // A table: its count and its records.
-fn put_table(out: &mut [u8], p: Place, k: usize, words: &[u64], coords: &[f64]) -> Place
-    requires { (k < 6) × Sized words.now coords.now }
-    ensures { PutAt ((list (limit_of k) (record_form k)).write (records_of (record_in k) words.now coords.now k)) out.old p result out.new }
+fn put_table(out: &mut [u8], p: Place, k: Kind, words: &[u64], coords: &[f64]) -> Place
+    requires { Sized words.now coords.now }
+    ensures { PutAt ((list (limit_of (kind_number k)) (record_form (kind_number k))).write (records_of (record_in (kind_number k)) words.now coords.now (kind_number k))) out.old p result out.new }
 {
-    let n = rows::index(words[1 + k]);
+    let n = store::count(words, k);
     let mut q = putting::put_number(out, p, n as u64);
-    let mut i: usize = 0;
-    while i < n {
+    for i in 0..n {
         q = put_row(out, q, k, i, words, coords);
-        i += 1;
     }
     q
 }
@@ -206,9 +186,9 @@ fn put_marks(out: &mut [u8], p: Place, words: &[u64], coords: &[f64]) -> Place
     requires { Sized words.now coords.now }
     ensures { PutAt (marks_form words.now coords.now) out.old p result out.new }
 {
-    let crosswalks = put_table(out, p, 3, words, coords);
-    let rules = put_table(out, crosswalks, 4, words, coords);
-    put_table(out, rules, 5, words, coords)
+    let crosswalks = put_table(out, p, Kind::Signal, words, coords);
+    let rules = put_table(out, crosswalks, Kind::Crosswalk, words, coords);
+    put_table(out, rules, Kind::Rule, words, coords)
 }
 
 // The map file of the tables: the next number and the six tables.
@@ -217,8 +197,8 @@ pub fn put_map(out: &mut [u8], p: Place, words: &[u64], coords: &[f64]) -> Place
     ensures { PutAt (map_file.write (map_of words.now coords.now)) out.old p result out.new }
 {
     let lanes = putting::put_number(out, p, words[0]);
-    let boundaries = put_table(out, lanes, 0, words, coords);
-    let lines = put_table(out, boundaries, 1, words, coords);
-    let marks = put_table(out, lines, 2, words, coords);
+    let boundaries = put_table(out, lanes, Kind::Lane, words, coords);
+    let lines = put_table(out, boundaries, Kind::Boundary, words, coords);
+    let marks = put_table(out, lines, Kind::StopLine, words, coords);
     put_marks(out, marks, words, coords)
 }

@@ -1,46 +1,47 @@
 -- How what one call writes goes on with what the next one writes.
-use Prim.Native.Nat.{ℕ, suc, ◌+◌, ◌-◌, ◌^◌, ◌≤◌, ◌<◌}
+use Prim.Native.Nat.{ℕ, zero, suc, ◌+◌, ◌/◌, ◌^◌, ◌≤◌, ◌<◌}
 use mathlib.Core.Path.{◌≡◌, refl, sym, ap, ◌∙◌}
 use mathlib.Core.Bool.{Bool, true, false, cond}
 use mathlib.Core.List.{List, [], ◌∷◌, ◌++◌, append_assoc, append-nil}
 use native.Mathlib.Omega.{arith}
 use native.Mathlib.Numerals.{add-one}
 use lib.Dec.{ltb}
-use lib.ListN.{length, set, length-append}
-use lib.Seq.{sets, length-sets}
+use lib.ListN.{length, set, take, drop, length-append}
+use lib.Seq.{sets, length-sets, sets-eq, take_all, take-append_seam}
 use borrow.Author.Tests.{lt-ltb, le-ltb, ltb-false}
 use Rattle.rows.specs.Lists.{list_to, joined}
+use Rattle.rows.specs.Rows.{pasted}
 use Rattle.rows.proofs.Indexed.{length-list_to}
 use Rattle.codec.specs.Format.{Bytes, Format, only, counted}
 use Rattle.codec.specs.Items.{list}
-use Rattle.codec.specs.Number.{number, split}
+use Rattle.codec.specs.Number.{number, groups, split}
 use Rattle.codec.specs.Answers.{Wrote}
-use Rattle.fields.specs.declared.Place.{Place}
-use Rattle.fields.specs.declared.Place.TheVariants as P
+use Rattle.fields.specs.Fields.{Place}
+use Rattle.std.specs.Prelude.{Some, None}
 use Rattle.putting.specs.Putting.{ahead, PutAt}
 
 -- ---- places
 
-pub lost_place : {i : ℕ} → P.Fault ≡ P.At i → ⊥
+pub lost_place : {i : ℕ} → None ≡ Some i → ⊥
 lost_place e = let z : ◌≡◌ {A = ℕ} 0 1 = cc in omega arith
 
-pub same_place : {i j : ℕ} → P.At i ≡ P.At j → i ≡ j
+pub same_place : {i j : ℕ} → Some i ≡ Some j → i ≡ j
 same_place e = cc
 
 ahead_both : (p : Place) (a b : ℕ) → ahead (ahead p a) b ≡ ahead p (a + b)
 unfolding ahead
-ahead_both P.Fault a b = refl
-ahead_both (P.At i) a b =
+ahead_both None a b = refl
+ahead_both (Some i) a b =
     split (ltb (i + a) (2 ^ 64))
     (λ t. let e : i + a + b ≡ i + (a + b) = omega arith in rw (t, e))
     (λ t. let l = ltb-false (i + a) (2 ^ 64) t in rw (t, le-ltb (i + (a + b)) (2 ^ 64) (omega arith)))
 
 -- a place that is there is that many bytes further on
-ahead_at : (i j n : ℕ) → P.At j ≡ ahead (P.At i) n → j ≡ i + n
+ahead_at : (i j n : ℕ) → Some j ≡ ahead (Some i) n → j ≡ i + n
 unfolding ahead
 ahead_at i j n e = go (ltb (i + n) (2 ^ 64)) e
   where
-    go : (b : Bool) → P.At j ≡ cond b (P.At (i + n)) P.Fault → j ≡ i + n
+    go : (b : Bool) → Some j ≡ cond b (Some (i + n)) None → j ≡ i + n
     go true e = same_place e
     go false e = absurd (lost_place (sym e))
 
@@ -51,10 +52,10 @@ sets_append l i (x ∷ xs) ys = let e : i + suc (length xs) ≡ suc i + length x
 -- ---- a form after another
 
 module _ (f g old mid new : Bytes) where
-  made_both : (p q r : Place) → PutAt f old p q mid → PutAt g mid q r new → (i j : ℕ) → p ≡ P.At i → r ≡ P.At j → j ≤ length old → new ≡ sets old i (f ++ g)
+  made_both : (p q r : Place) → PutAt f old p q mid → PutAt g mid q r new → (i j : ℕ) → p ≡ Some i → r ≡ Some j → j ≤ length old → new ≡ sets old i (f ++ g)
   unfolding ahead
-  made_both p P.Fault r x y i j ep er h = absurd (lost_place (sym y.next ∙ er))
-  made_both p (P.At k) r x y i j ep er h =
+  made_both p None r x y i j ep er h = absurd (lost_place (sym y.next ∙ er))
+  made_both p (Some k) r x y i j ep er h =
       let a : k ≡ i + length f = ahead_at i k (length f) (rw ep at x.next) in
       let b : j ≡ k + length g = ahead_at k j (length g) (sym er ∙ y.next) in
       let m : mid ≡ sets old i f = x.made i k ep refl (omega arith) in
@@ -107,35 +108,55 @@ list_put f most v n old mid new p q r k x i h =
     let e : k ≡ n = omega (arith, i.few) in
     rw (length-list_to v n) (put_then _ _ old mid new p q r x (rw e at i.stand))
 
--- ---- a form whose size is known
+-- ---- a form that is written already
 
 module _ (form old : Bytes) (p : Place) where
-  pub put_lost : p ≡ P.Fault → PutAt form old p P.Fault old
+  pub put_lost : p ≡ None → PutAt form old p None old
   unfolding ahead
   put_lost e = record { next = rw e; long = refl; made = λ i j ep er h. absurd (lost_place er) }
 
-  module _ (i size : ℕ) (e : p ≡ P.At i) (s : size ≡ length form) where
-    pub put_far : 18446744073709551615 - i < size → PutAt form old p P.Fault old
+  module _ (i : ℕ) (e : p ≡ Some i) where
+    -- the place after it is past the last one
+    pub put_far : (r : Place) → r ≡ None → (i + length form < 2 ^ 64 → ⊥) → PutAt form old p r old
     unfolding ahead
-    put_far h = record { next = rw (e, ← s, le-ltb (i + size) (2 ^ 64) (omega arith)); long = refl; made = λ a b ep er k. absurd (lost_place er) }
+    put_far r n h = rw n (record { next = rw (e, le-ltb (i + length form) (2 ^ 64) (omega arith)); long = refl; made = λ a b ep er k. absurd (lost_place er) })
 
-    module _ (h : size ≤ 18446744073709551615 - i) (l : i < 2 ^ 64) where
-      goes : P.At (i + size) ≡ ahead p (length form)
+    module _ (next : ℕ) (h : i + length form < 2 ^ 64) (n : next ≡ i + length form) where
+      goes : Some next ≡ ahead p (length form)
       unfolding ahead
-      goes = rw (e, ← s, lt-ltb (i + size) (2 ^ 64) (omega arith))
+      goes = rw (n, e, lt-ltb (i + length form) (2 ^ 64) h)
 
-      pub put_short : length old < i + size → PutAt form old p (P.At (i + size)) old
+      pub put_short : length old < next → PutAt form old p (Some next) old
       put_short k = record { next = goes; long = refl; made = λ a b ep er m. let z = same_place er in absurd (let y : ⊥ = omega arith in y) }
 
-      pub put_made : (new : Bytes) → new ≡ sets old i form → PutAt form old p (P.At (i + size)) new
-      put_made new w =
+      pub put_pasted : next ≤ length old → (new : Bytes) → new ≡ pasted old i form (length form) → PutAt form old p (Some next) new
+      unfolding pasted
+      put_pasted k new w =
+          let m : new ≡ sets old i form = w ∙ rw (take_all (length form) form (omega arith)) (sym (sets-eq form old i (omega arith))) in
           record {
             next = goes;
-            long = ap length w ∙ length-sets old i form;
-            made = λ a b ep er m. let z : i ≡ a = same_place (sym e ∙ ep) in rw (← z) w;
+            long = ap length m ∙ length-sets old i form;
+            made = λ a b ep er k. let z : i ≡ a = same_place (sym e ∙ ep) in rw (← z) m;
           }
 
-      pub put_wrote : (new : Bytes) (r : ℕ) → Wrote form old i r new → PutAt form old p (P.At (i + size)) new
-      put_wrote new r w = put_made new w.made
+pub ruleset putting_form = (put_lost, put_far, put_short, put_pasted)
 
-pub ruleset putting_form = (put_lost, put_far, put_short, put_made, put_wrote)
+-- ---- a form at the beginning of a buffer of its own
+
+pub front : (form old : Bytes) → length form ≤ length old → take (length form) (sets old 0 form) ≡ form
+front form old h = rw (sets-eq form old 0 (omega arith)) (take-append_seam form (drop (0 + length form) old))
+
+few_groups : (k n : ℕ) → length (groups k n) ≤ k
+unfolding groups
+few_groups zero n = omega arith
+few_groups (suc k) n = split (ltb n 128) (λ t. rw t (omega arith)) (λ t. let r = few_groups k (n / 128) in rw t (omega arith))
+
+pub number_short : (n : ℕ) → length (number.write n) ≤ 10
+unfolding number
+number_short n = few_groups 10 n
+
+pub number_front : (n : ℕ) (old new : Bytes) (r : ℕ) → length old ≡ 10 → Wrote (number.write n) old 0 r new → take r new ≡ number.write n
+number_front n old new r h w =
+    let s = number_short n in
+    let e : r ≡ length (number.write n) = omega (arith, w.next) in
+    rw (e, w.made) (front (number.write n) old (omega arith))

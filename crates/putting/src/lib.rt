@@ -8,22 +8,26 @@ ghost use Rattle.putting.specs.Putting.{PutAt};
 
 use fields::Place;
 
-const LAST: usize = 0xFFFF_FFFF_FFFF_FFFF;
+// A number has at most ten groups of seven bits.
+const LONGEST: usize = 10;
 
 pub fn put_number(out: &mut [u8], p: Place, n: u64) -> Place
     ensures { PutAt (number.write n) out.old p result out.new }
 {
-    let Place::At(i) = p else {
-        return Place::Fault;
-    };
-    let size = codec::number_size(n);
-    if LAST - i < size {
-        return Place::Fault;
+    let mut bytes = [0; LONGEST];
+    let size = codec::write_number(&mut bytes, 0, n);
+    put_bytes(out, p, &bytes[..size])
+}
+
+// A form that is written already.
+#[tactic(auto, using(crate::proofs::PutLaws::putting_form))]
+pub fn put_bytes(out: &mut [u8], p: Place, bytes: &[u8]) -> Place
+    ensures { PutAt bytes.now out.old p result out.new }
+{
+    let i = p?;
+    let next = i.checked_add(bytes.len())?;
+    if next <= out.len() {
+        rows::put(out, i, bytes);
     }
-    let next = i + size;
-    if out.len() < next {
-        return Place::At(next);
-    }
-    codec::write_number(out, i, n);
-    Place::At(next)
+    Some(next)
 }

@@ -6,8 +6,7 @@ ghost use Rattle.std.specs.Prelude.{◌≡◌, ◌≤◌, length, drop};
 ghost use Rattle.files.specs.ReadInto.{MapReadInto, ChangesReadInto};
 ghost use Rattle.reader.specs.Next.{place_after, NumberTaken};
 
-use codec::Number;
-use files::{ChangesRead, MapRead};
+use refusal::Refusal;
 
 #[derive(Drop)]
 pub struct Reader<'a> {
@@ -16,6 +15,7 @@ pub struct Reader<'a> {
 }
 
 // Where the unused bytes begin: at the place, or at the end where the place is past it.
+#[tactic(auto, using(crate::proofs::ReaderLaws::past))]
 fn begin(bytes: &[u8], at: usize) -> usize
     ensures { (result ≤ length bytes.now) × (drop result bytes.now ≡ drop at bytes.now) }
 {
@@ -23,7 +23,7 @@ fn begin(bytes: &[u8], at: usize) -> usize
 }
 
 // The unused bytes are a map file, or 12.
-pub fn map_at(bytes: &[u8], at: usize, words: &mut [u64], coords: &mut [f64]) -> MapRead
+pub fn map_at(bytes: &[u8], at: usize, words: &mut [u64], coords: &mut [f64]) -> Result<(), Refusal>
     ensures { MapReadInto (drop at bytes.now) words.old coords.old result words.new coords.new }
 {
     let from = begin(bytes, at);
@@ -31,7 +31,7 @@ pub fn map_at(bytes: &[u8], at: usize, words: &mut [u64], coords: &mut [f64]) ->
 }
 
 // The unused bytes are a change set file, or 13.
-pub fn changes_at(bytes: &[u8], at: usize, set: &mut [u64]) -> ChangesRead
+pub fn changes_at(bytes: &[u8], at: usize, set: &mut [u64]) -> Result<(), Refusal>
     ensures { ChangesReadInto (drop at bytes.now) set.old result set.new }
 {
     let from = begin(bytes, at);
@@ -39,29 +39,33 @@ pub fn changes_at(bytes: &[u8], at: usize, set: &mut [u64]) -> ChangesRead
 }
 
 // The place after a number that was read; after a fault the same place.
-pub fn place_after(n: Number, at: usize) -> usize
+pub fn place_after(n: Option<(u64, usize)>, at: usize) -> usize
     ensures { result ≡ place_after n at }
 {
     match n {
-        Number::Got(_, next) => next,
-        Number::Fault => at,
+        Some((_, next)) => next,
+        None => at,
     }
 }
 
-pub fn read_map<'a, 'b, 'c>(r: Reader<'a>, words: &'b mut [u64], coords: &'c mut [f64]) -> MapRead
+pub fn read_map<'a, 'b, 'c>(
+    r: Reader<'a>,
+    words: &'b mut [u64],
+    coords: &'c mut [f64],
+) -> Result<(), Refusal>
     ensures { MapReadInto (drop r.entry.at r.entry.bytes.now) words.old coords.old result words.new coords.new }
 {
     map_at(r.bytes, r.at, words, coords)
 }
 
-pub fn read_changes<'a, 'b>(r: Reader<'a>, set: &'b mut [u64]) -> ChangesRead
+pub fn read_changes<'a, 'b>(r: Reader<'a>, set: &'b mut [u64]) -> Result<(), Refusal>
     ensures { ChangesReadInto (drop r.entry.at r.entry.bytes.now) set.old result set.new }
 {
     changes_at(r.bytes, r.at, set)
 }
 
 // One number is read and used up; a fault uses nothing.
-pub fn next_number<'s, 'a>(r: &'s mut Reader<'a>) -> Number
+pub fn next_number<'s, 'a>(r: &'s mut Reader<'a>) -> Option<(u64, usize)>
     ensures { NumberTaken r.old result r.new }
 {
     let n = codec::read_number(r.bytes, r.at);
@@ -69,13 +73,13 @@ pub fn next_number<'s, 'a>(r: &'s mut Reader<'a>) -> Number
     n
 }
 
-pub fn read_map_file(file: &[u8], words: &mut [u64], coords: &mut [f64]) -> MapRead
+pub fn read_map_file(file: &[u8], words: &mut [u64], coords: &mut [f64]) -> Result<(), Refusal>
     ensures { MapReadInto file.now words.old coords.old result words.new coords.new }
 {
     read_map(Reader { bytes: file, at: 0 }, words, coords)
 }
 
-pub fn read_changes_file(file: &[u8], set: &mut [u64]) -> ChangesRead
+pub fn read_changes_file(file: &[u8], set: &mut [u64]) -> Result<(), Refusal>
     ensures { ChangesReadInto file.now set.old result set.new }
 {
     read_changes(Reader { bytes: file, at: 0 }, set)

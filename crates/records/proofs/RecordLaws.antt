@@ -9,8 +9,7 @@ use Rattle.codec.specs.Number.{number}
 use Rattle.codec.specs.Items.{below, list, option}
 use Rattle.map.specs.MapFile.{polyline, boundary_ref, height, bulb, lane, line_string, signal, crosswalk}
 use Rattle.map.specs.Tables.{lane_in, line_string_in, signal_in, crosswalk_in}
-use Rattle.fields.specs.Fields.{largest, Word, Line, OptionLine, OptionHeight, Bulbs}
-use Rattle.fields.specs.declared.Place.{Place}
+use Rattle.fields.specs.Fields.{Place, largest, Word, Line, OptionLine, OptionHeight, Bulbs}
 use Rattle.fields.proofs.Places.{place_then, place_via}
 use Rattle.records.specs.Records.{SideRead, RowRead}
 use Rattle.records.proofs.Steps.{kept_one, kept_more, number_at, below_at, side_got, side_at_lem, line_at_lem, height_at}

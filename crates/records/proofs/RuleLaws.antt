@@ -13,9 +13,8 @@ use Rattle.codec.specs.Number.{number}
 use Rattle.codec.specs.Items.{from, option}
 use Rattle.map.specs.MapFile.{polyline, numbers, Fields, fields, to_body, body, rule}
 use Rattle.map.specs.Tables.{flag_at, list_at, body_of, rule_in}
-use Rattle.fields.specs.Fields.{read_at, got_at, Changed, largest, Word, Numbers, OptionLine, OptionNumber}
-use Rattle.fields.specs.declared.Place.{Place}
-use Rattle.fields.specs.declared.Place.TheVariants as P
+use Rattle.fields.specs.Fields.{Place, read_at, got_at, Changed, largest, Word, Numbers, OptionLine, OptionNumber}
+use Rattle.std.specs.Prelude.{Some, None}
 use Rattle.fields.proofs.Places.{changed_both, place_then, place_via, range_any, range_from, place_tagged}
 use Rattle.records.specs.Records.{RowRead, BodyRead, PartRead, SignRead, light_in, sign_in, right_of_way_in, crossing_in}
 
@@ -79,27 +78,27 @@ pub ruleset reading_parts = (light_got, crossing_got, right_of_way_got, sign_got
 module _ {A : Type 0} {B : A → Type 0} (f : Format A) (g : (a : A) → Format (B a)) (s : Bytes) where
   tagged_fault : (p q : Place) (a : A) → got_at s q a ≡ read_at f s p → fault ≡ read_at (g a) s q → fault ≡ read_at (tagged f g) s p
   unfolding tagged
-  tagged_fault P.Fault q a x y = refl
-  tagged_fault (P.At i) P.Fault a x y = rw (← x)
-  tagged_fault (P.At i) (P.At j) a x y = rw (← x, ← y)
+  tagged_fault None q a x y = refl
+  tagged_fault (Some i) None a x y = rw (← x)
+  tagged_fault (Some i) (Some j) a x y = rw (← x, ← y)
 
 via_fault : {A B : Type 0} (f : Format A) (into : A → B) (out : B → A) (oi : (a : A) → f.fits a ≡ true → out (into a) ≡ a) (io : (b : B) → f.fits (out b) ≡ true → into (out b) ≡ b) (s : Bytes) (p : Place)
     → fault ≡ read_at f s p → fault ≡ read_at (via f into out oi io) s p
 unfolding via
-via_fault f into out oi io s P.Fault x = refl
-via_fault f into out oi io s (P.At i) x = rw (← x)
+via_fault f into out oi io s None x = refl
+via_fault f into out oi io s (Some i) x = rw (← x)
 
 no_fields : (s : Bytes) (q : Place) (k : ℕ) → (k ≡ 1 → ⊥) → (k ≡ 2 → ⊥) → (k ≡ 3 → ⊥) → (k ≡ 4 → ⊥) → (k ≡ 5 → ⊥) → (k ≡ 6 → ⊥) → fault ≡ read_at (fields k) s q
 unfolding never
-no_fields s P.Fault k a b c d e f = refl
-no_fields s (P.At i) zero a b c d e f = refl
-no_fields s (P.At i) (suc zero) a b c d e f = absurd (a refl)
-no_fields s (P.At i) (suc (suc zero)) a b c d e f = absurd (b refl)
-no_fields s (P.At i) (suc (suc (suc zero))) a b c d e f = absurd (c refl)
-no_fields s (P.At i) (suc (suc (suc (suc zero)))) a b c d e f = absurd (d refl)
-no_fields s (P.At i) (suc (suc (suc (suc (suc zero))))) a b c d e f = absurd (e refl)
-no_fields s (P.At i) (suc (suc (suc (suc (suc (suc zero)))))) a b c d e f = absurd (f refl)
-no_fields s (P.At i) (suc (suc (suc (suc (suc (suc (suc k))))))) a b c d e f = refl
+no_fields s None k a b c d e f = refl
+no_fields s (Some i) zero a b c d e f = refl
+no_fields s (Some i) (suc zero) a b c d e f = absurd (a refl)
+no_fields s (Some i) (suc (suc zero)) a b c d e f = absurd (b refl)
+no_fields s (Some i) (suc (suc (suc zero))) a b c d e f = absurd (c refl)
+no_fields s (Some i) (suc (suc (suc (suc zero)))) a b c d e f = absurd (d refl)
+no_fields s (Some i) (suc (suc (suc (suc (suc zero))))) a b c d e f = absurd (e refl)
+no_fields s (Some i) (suc (suc (suc (suc (suc (suc zero)))))) a b c d e f = absurd (f refl)
+no_fields s (Some i) (suc (suc (suc (suc (suc (suc (suc k))))))) a b c d e f = refl
 
 module _ (s : Bytes) (p q : Place) (w w1 : List ℕ) (x : Word 0 largest s p w 1 q w1) where
   body_at : (r : Place) (k : ℕ) (b : Fields k) → get_or w1 1 0 ≡ k → got_at s r b ≡ read_at (fields k) s q → got_at s r (to_body k b) ≡ read_at body s p
@@ -135,7 +134,7 @@ module _ (s : Bytes) (p q : Place) (w w1 : List ℕ) (x : Word 0 largest s p w 1
       body_of_lem 6 r w2 cs cs e (changed_both w1 w2 w2 2 92 2 3 2 2 y.words (Rattle.fields.proofs.Places.unchanged w2 2 2) (omega arith) (omega arith) (omega arith) (omega arith)) refl
       (body_at r 6 (get_or w2 2 0) e (y.is ∙ range_from 1 s q))
 
-  pub body_none : (cs : List Float) → (get_or w1 1 0 ≡ 1 → ⊥) → (get_or w1 1 0 ≡ 2 → ⊥) → (get_or w1 1 0 ≡ 3 → ⊥) → (get_or w1 1 0 ≡ 4 → ⊥) → (get_or w1 1 0 ≡ 5 → ⊥) → (get_or w1 1 0 ≡ 6 → ⊥) → BodyRead s p w cs P.Fault w1 cs
+  pub body_none : (cs : List Float) → (get_or w1 1 0 ≡ 1 → ⊥) → (get_or w1 1 0 ≡ 2 → ⊥) → (get_or w1 1 0 ≡ 3 → ⊥) → (get_or w1 1 0 ≡ 4 → ⊥) → (get_or w1 1 0 ≡ 5 → ⊥) → (get_or w1 1 0 ≡ 6 → ⊥) → BodyRead s p w cs None w1 cs
   unfolding body
   body_none cs a b c d e f =
       record {

@@ -14,8 +14,7 @@ use Rattle.codec.specs.Number.{number}
 use Rattle.codec.specs.Items.{below, flag, option}
 use Rattle.map.specs.MapFile.{polyline, boundary_ref, height}
 use Rattle.map.specs.Tables.{flag_at, option_at, line_at, point_from}
-use Rattle.fields.specs.Fields.{read_at, got_at, Changed, range, largest, Word, Line, OptionHeight}
-use Rattle.fields.specs.declared.Place.{Place}
+use Rattle.fields.specs.Fields.{Place, read_at, got_at, Changed, range, largest, Word, Line, OptionHeight}
 use Rattle.records.specs.Records.{side_at, SideRead}
 use Rattle.fields.proofs.Places.{changed_both, place_then, place_via, range_any, range_below}
 

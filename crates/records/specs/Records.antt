@@ -1,6 +1,5 @@
 -- The records of all kinds: 0 lane, 1 boundary, 2 stop line, 3 signal, 4 crosswalk, 5 rule.
-use Rattle.std.specs.Prelude.{ℕ, zero, suc, ◌+◌, ◌≡◌, List, Float, length, get_or}
-use Rattle.std.proofs.Math.Option.{Option}
+use Rattle.std.specs.Prelude.{ℕ, zero, suc, ◌+◌, ◌≡◌, List, Float, length, get_or, Option}
 use Rattle.codec.specs.Format.{Bytes, Format, ◌⊗◌, nothing}
 use Rattle.codec.specs.Number.{number}
 use Rattle.codec.specs.Items.{from, option}
@@ -8,8 +7,7 @@ use Rattle.geometry.specs.Polyline.{Polyline}
 use Rattle.map.specs.Record.{BoundaryRef, Lane, LineString, Signal, Crosswalk, Rule}
 use Rattle.map.specs.MapFile.{polyline, boundary_ref, lane, line_string, signal, crosswalk, body, rule}
 use Rattle.map.specs.Tables.{flag_at, option_at, list_at, line_at, lane_in, line_string_in, signal_in, crosswalk_in, body_of, rule_in}
-use Rattle.fields.specs.Fields.{read_at, got_at, Changed}
-use Rattle.fields.specs.declared.Place.{Place}
+use Rattle.fields.specs.Fields.{Place, read_at, got_at, Changed}
 
 abbrev pub Rec : ℕ → Type 0
 Rec zero = Lane

@@ -3,7 +3,6 @@ use Prim.Native.Nat.{ℕ, zero, suc, ◌+◌, ◌*◌, ◌≤◌, ◌<◌}
 use mathlib.Core.Path.{◌≡◌, refl, ◌∙◌}
 use mathlib.Core.Logic.{◌⊎◌, inl, inr}
 use mathlib.Core.Bool.{Bool, true, false, ◌&&◌, cond}
-use mathlib.Core.Option.{none}
 use mathlib.Core.List.{List, []}
 use native.Mathlib.Omega.{arith}
 use native.Mathlib.Nat.{suc-mul, mul-le-mul_right}
@@ -17,9 +16,8 @@ use Rattle.codec.specs.Items.{below, list}
 use Rattle.changes.specs.ChangeFile.{kinds, entry, abouts, about, warning_form, warnings}
 use Rattle.changes.specs.Layout.{set_words, count_in, ref_at, about_of, warning_at, list_in}
 use Rattle.changes.proofs.WrittenLaws.{refs_same}
-use Rattle.fields.specs.Fields.{read_at, got_at, Changed, range, largest, Word}
-use Rattle.fields.specs.declared.Place.{Place}
-use Rattle.fields.specs.declared.Place.TheVariants as P
+use Rattle.fields.specs.Fields.{Place, read_at, got_at, Changed, range, largest, Word}
+use Rattle.std.specs.Prelude.{Some, None}
 use Rattle.fields.proofs.Places.{unchanged, changed_both, place_then, place_via, place_tagged, range_any, range_below, onto, Listed, listed_starts, listed-all, listed_more, listed_ends}
 use Rattle.setfile.specs.SetFile.{ItemRead, ListRead, SetLoaded}
 use Rattle.setfile.proofs.SetLaws.{refs_list, warnings_list}
@@ -40,8 +38,8 @@ kind_test (suc k) most =
 
 kinds_read : (most : ℕ) (s : Bytes) (p : Place) → read_at (range 1 most) s p ≡ read_at (kinds (suc most)) s p
 unfolding range kinds below only
-kinds_read most s P.Fault = refl
-kinds_read most s (P.At i) = go (number.read (drop i s))
+kinds_read most s None = refl
+kinds_read most s (Some i) = go (number.read (drop i s))
   where
     two : (a b : Bool) (k : ℕ) (t : Bytes) → cond (a && b) (got k t) fault ≡ and_then (cond a (got k t) fault) (λ k t. cond b (got k t) fault)
     two true b k t = refl
@@ -64,11 +62,11 @@ module _ (s : Bytes) (p q r : Place) (t t1 t2 : List ℕ) (at : ℕ) where
 module _ (s : Bytes) (p q : Place) (k : ℕ) (x : got_at s q k ≡ read_at (range 0 8) s p) where
   about_none : (n : ℕ) → k ≡ 0 → got_at s q (about_of k n) ≡ read_at about s p
   unfolding about nothing
-  about_none n z = rw z (place_via (tagged (below 9) abouts) _ _ _ _ s p q (0, tt) (place_tagged (below 9) abouts s p q q 0 tt (rw z at (x ∙ range_below 8 s p)) (none q)))
+  about_none n z = rw z (place_via (tagged (below 9) abouts) _ _ _ _ s p q (0, tt) (place_tagged (below 9) abouts s p q q 0 tt (rw z at (x ∙ range_below 8 s p)) (nothing_more q)))
     where
-      none : (q : Place) → got_at {A = Unit {0}} s q tt ≡ read_at (abouts 0) s q
-      none P.Fault = refl
-      none (P.At i) = refl
+      nothing_more : (q : Place) → got_at {A = Unit {0}} s q tt ≡ read_at (abouts 0) s q
+      nothing_more None = refl
+      nothing_more (Some i) = refl
 
   about_some : (r : Place) (n : ℕ) → (k ≡ 0 → ⊥) → got_at s r n ≡ read_at number s q → got_at s r (about_of k n) ≡ read_at about s p
   unfolding about
@@ -229,7 +227,7 @@ list_stays m t t' h x =
     (refs_same t t' (4 + m * 1024) (get_or t m 0) (λ i a b. x.rows i (omega arith) (omega arith)))
 
 module _ (s : Bytes) (q r v z : Place) (t t1 t2 t3 t4 : List ℕ) where
-  pub set_loaded : ListRead entry ref_at 2 512 4 0 s (P.At 0) t q t1 → ListRead entry ref_at 2 512 1028 1 s q t1 r t2 → ListRead entry ref_at 2 512 2052 2 s r t2 v t3
+  pub set_loaded : ListRead entry ref_at 2 512 4 0 s (Some 0) t q t1 → ListRead entry ref_at 2 512 1028 1 s q t1 r t2 → ListRead entry ref_at 2 512 2052 2 s r t2 v t3
       → ListRead warning_form warning_at 3 160 3076 3 s v t3 z t4 → SetLoaded s t z t4
   unfolding warnings count_in
   set_loaded a b c d =
@@ -238,7 +236,7 @@ module _ (s : Bytes) (q r v z : Place) (t t1 t2 t3 t4 : List ℕ) where
       let b1 = before_then 1 2 t1 t2 t4 (omega arith) (before_list entry ref_at 2 512 1 s q t1 r t2 (omega arith) b) b2 in
       record {
         long = d.long ∙ c.long ∙ b.long ∙ a.long;
-        is = place_then (list 512 entry) (list 512 entry ⊗ list 512 entry ⊗ warnings) s (P.At 0) q z _ _ (rw (list_stays 0 t1 t4 a.few b1, list_is t1 0) a.is)
+        is = place_then (list 512 entry) (list 512 entry ⊗ list 512 entry ⊗ warnings) s (Some 0) q z _ _ (rw (list_stays 0 t1 t4 a.few b1, list_is t1 0) a.is)
             (place_then (list 512 entry) (list 512 entry ⊗ warnings) s q r z _ _ (rw (list_stays 1 t2 t4 b.few b2, list_is t2 1) b.is)
             (place_then (list 512 entry) warnings s r v z _ _ (rw (list_stays 2 t3 t4 c.few b3, list_is t3 2) c.is) (rw (warnings_list t4 3076 (get_or t4 3 0)) d.is)));
       }

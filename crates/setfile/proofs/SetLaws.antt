@@ -12,7 +12,7 @@ use Rattle.codec.specs.Number.{number}
 use Rattle.codec.specs.Items.{below}
 use Rattle.changes.specs.ChangeFile.{max_entries, max_warnings, kinds, entry, about, warning_form, entries, warnings, change_file}
 use Rattle.changes.specs.Layout.{set_words, count_in, ref_at, refs_at, warning_at, warnings_at, list_in, change_set_of}
-use Rattle.fields.specs.declared.Place.{Place}
+use Rattle.fields.specs.Fields.{Place}
 use Rattle.putting.specs.Putting.{PutAt}
 use Rattle.putting.proofs.PutLaws.{put_then, Items, items_start, items_more, list_put}
 use Rattle.setfile.specs.SetFile.{Counted}

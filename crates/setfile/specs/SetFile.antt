@@ -8,8 +8,7 @@ use Rattle.changes.specs.ChangeSet.{Warning}
 use Rattle.changes.specs.ChangeFile.{max_entries, entry, warnings}
 use Rattle.changes.specs.Layout.{from_of, count_in, warnings_at, list_in}
 use Rattle.sets.specs.Tables.{Roomy}
-use Rattle.fields.specs.Fields.{read_at, got_at, Changed}
-use Rattle.fields.specs.declared.Place.{Place}
+use Rattle.fields.specs.Fields.{Place, read_at, got_at, Changed}
 
 -- counts within their lists' room, the warnings' too
 pub record Counted (t : List ℕ) : Type 0 where

@@ -1,4 +1,6 @@
-// A change set file: written from its table, and loaded into one.
+// A change set file: written from its table, and loaded into one. The table is one slice, as C lends it, and an index says where a list
+// stands in it. Entries and warnings have a loop each: what they would share is the loop alone, and it would have to be handed the law of
+// the item. A warning's kind is a word of the table, where any number may stand.
 #![tactic(auto)]
 
 ghost use Rattle.std.specs.Prelude.{◌≡◌, ◌+◌, ◌*◌, ◌≤◌, ◌<◌, length};
@@ -26,10 +28,8 @@ fn put_entries(out: &mut [u8], p: Place, t: &[u64], from: usize, n: usize) -> Pl
     ensures { PutAt (entries.write (refs_at t.now from n)) out.old p result out.new }
 {
     let mut q = putting::put_number(out, p, n as u64);
-    let mut i: usize = 0;
-    while i < n {
+    for i in 0..n {
         q = put_entry(out, q, t, from + i * 2);
-        i += 1;
     }
     q
 }
@@ -54,15 +54,14 @@ fn put_warnings(out: &mut [u8], p: Place, t: &[u64], from: usize, n: usize) -> P
     ensures { PutAt (warnings.write (warnings_at t.now from n)) out.old p result out.new }
 {
     let mut q = putting::put_number(out, p, n as u64);
-    let mut i: usize = 0;
-    while i < n {
+    for i in 0..n {
         q = put_warning(out, q, t, from + i * 3);
-        i += 1;
     }
     q
 }
 
 // The set file of a table.
+#[tactic(auto, using(crate::proofs::SetLaws::putting_set))]
 pub fn put_set(out: &mut [u8], p: Place, t: &[u64]) -> Place
     requires { Counted t.now }
     ensures { PutAt (change_file.write (change_set_of t.now)) out.old p result out.new }
@@ -74,6 +73,7 @@ pub fn put_set(out: &mut [u8], p: Place, t: &[u64]) -> Place
 }
 
 // An entry into two words.
+#[tactic(auto, using(crate::proofs::LoadLaws::loading_entry))]
 fn load_entry(s: &[u8], p: Place, t: &mut [u64], at: usize) -> Place
     requires { at + 2 ≤ length t.old }
     ensures { ItemRead entry ref_at 2 s.now p t.old at result t.new }
@@ -83,6 +83,7 @@ fn load_entry(s: &[u8], p: Place, t: &mut [u64], at: usize) -> Place
 }
 
 // List l: its count into word l, its entries into its room.
+#[tactic(auto, using(crate::proofs::LoadLaws::loading_entries))]
 fn load_entries(s: &[u8], p: Place, t: &mut [u64], l: usize) -> Place
     requires { (l < 3) × (length t.old ≡ set_words) }
     ensures { ListRead entry ref_at 2 512 (from_of l) l s.now p t.old result t.new }
@@ -90,15 +91,14 @@ fn load_entries(s: &[u8], p: Place, t: &mut [u64], l: usize) -> Place
     let mut q = fields::read_word(s, p, t, l, 0, 512);
     let n = t[l] as usize;
     let from = 4 + l * 1024;
-    let mut i: usize = 0;
-    while i < n {
+    for i in 0..n {
         q = load_entry(s, q, t, from + i * 2);
-        i += 1;
     }
     q
 }
 
 // A warning into three words; after kind 0 there is no number.
+#[tactic(auto, using(crate::proofs::LoadLaws::loading_warning))]
 fn load_warning(s: &[u8], p: Place, t: &mut [u64], at: usize) -> Place
     requires { at + 3 ≤ length t.old }
     ensures { ItemRead warning_form warning_at 3 s.now p t.old at result t.new }
@@ -111,26 +111,26 @@ fn load_warning(s: &[u8], p: Place, t: &mut [u64], at: usize) -> Place
     fields::read_word(s, r, t, at + 2, 0, LARGEST)
 }
 
+#[tactic(auto, using(crate::proofs::LoadLaws::loading_warnings))]
 fn load_warnings(s: &[u8], p: Place, t: &mut [u64]) -> Place
     requires { length t.old ≡ set_words }
     ensures { ListRead warning_form warning_at 3 160 3076 3 s.now p t.old result t.new }
 {
     let mut q = fields::read_word(s, p, t, 3, 0, 160);
     let n = t[3] as usize;
-    let mut i: usize = 0;
-    while i < n {
+    for i in 0..n {
         q = load_warning(s, q, t, 3076 + i * 3);
-        i += 1;
     }
     q
 }
 
 // The lists of a set file; their order is not tested here.
+#[tactic(auto, using(crate::proofs::LoadLaws::loading_set))]
 pub fn load_set(s: &[u8], t: &mut [u64]) -> Place
     requires { length t.old ≡ set_words }
     ensures { SetLoaded s.now t.old result t.new }
 {
-    let modified = load_entries(s, Place::At(0), t, 0);
+    let modified = load_entries(s, Some(0), t, 0);
     let deleted = load_entries(s, modified, t, 1);
     let warnings = load_entries(s, deleted, t, 2);
     load_warnings(s, warnings, t)

@@ -1,4 +1,5 @@
-// A running fold's tally as three words, for programs in other languages: created, modified, deleted.
+// A running fold's tally as three words, for programs in other languages: created, modified, deleted. Neither Tally nor the array is of
+// this crate, so no From can stand here.
 #![tactic(auto)]
 
 ghost use Rattle.std.specs.Prelude.{◌≡◌};

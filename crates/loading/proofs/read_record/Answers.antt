@@ -1,63 +1,19 @@
-use borrow.Author.Rules.{rules}
-use Rattle.loading.proofs.LoadLaws as L
+use mathlib.Core.Path.{◌≡◌}
+use mathlib.Core.Logic.{⊎_elim}
+use Rattle.store.specs.declared.Kind.TheVariants.{Boundary, StopLine}
 use Rattle.loading.proofs.read_record.Goals as goal
 
-pub read_lane-requires : goal.read_lane-requires
-read_lane-requires c = search (rules, L.reading_record)
+pub returns-in-Lane : goal.returns-in-Lane
+returns-in-Lane c = rw c.in-Lane.is c.read_lane.ensures
 
-pub shape_of-words-then-k-eq0 : goal.shape_of-words-then-k-eq0
-shape_of-words-then-k-eq0 c = search (rules, L.reading_record)
+pub returns-in-Boundary : goal.returns-in-Boundary
+returns-in-Boundary c = ⊎_elim (λ (e : c.args.k ≡ Boundary). rw e c.read_line_string.ensures) (λ (e : c.args.k ≡ StopLine). rw e c.read_line_string.ensures) c.in-Boundary.is
 
-pub shape_of-coords-then-k-eq0 : goal.shape_of-coords-then-k-eq0
-shape_of-coords-then-k-eq0 c = search (rules, L.reading_record)
+pub returns-in-Signal : goal.returns-in-Signal
+returns-in-Signal c = rw c.in-Signal.is c.read_signal.ensures
 
-pub returns-then-k-eq0 : goal.returns-then-k-eq0
-returns-then-k-eq0 c = search (rules, L.reading_record)
+pub returns-in-Crosswalk : goal.returns-in-Crosswalk
+returns-in-Crosswalk c = rw c.in-Crosswalk.is c.read_crosswalk.ensures
 
-pub read_signal-requires : goal.read_signal-requires
-read_signal-requires c = search (rules, L.reading_record)
-
-pub shape_of-words-then-k-eq3 : goal.shape_of-words-then-k-eq3
-shape_of-words-then-k-eq3 c = search (rules, L.reading_record)
-
-pub shape_of-coords-then-k-eq3 : goal.shape_of-coords-then-k-eq3
-shape_of-coords-then-k-eq3 c = search (rules, L.reading_record)
-
-pub returns-then-k-eq3 : goal.returns-then-k-eq3
-returns-then-k-eq3 c = search (rules, L.reading_record)
-
-pub read_crosswalk-requires : goal.read_crosswalk-requires
-read_crosswalk-requires c = search (rules, L.reading_record)
-
-pub shape_of-words-then-k-eq4 : goal.shape_of-words-then-k-eq4
-shape_of-words-then-k-eq4 c = search (rules, L.reading_record)
-
-pub shape_of-coords-then-k-eq4 : goal.shape_of-coords-then-k-eq4
-shape_of-coords-then-k-eq4 c = search (rules, L.reading_record)
-
-pub returns-then-k-eq4 : goal.returns-then-k-eq4
-returns-then-k-eq4 c = search (rules, L.reading_record)
-
-pub read_rule-requires : goal.read_rule-requires
-read_rule-requires c = search (rules, L.reading_record)
-
-pub shape_of-words-then-k-eq5 : goal.shape_of-words-then-k-eq5
-shape_of-words-then-k-eq5 c = search (rules, L.reading_record)
-
-pub shape_of-coords-then-k-eq5 : goal.shape_of-coords-then-k-eq5
-shape_of-coords-then-k-eq5 c = search (rules, L.reading_record)
-
-pub returns-then-k-eq5 : goal.returns-then-k-eq5
-returns-then-k-eq5 c = search (rules, L.reading_record)
-
-pub read_line_string-requires : goal.read_line_string-requires
-read_line_string-requires c = search (rules, L.reading_record)
-
-pub shape_of-words : goal.shape_of-words
-shape_of-words c = search (rules, L.reading_record)
-
-pub shape_of-coords : goal.shape_of-coords
-shape_of-coords c = search (rules, L.reading_record)
-
-pub returns : goal.returns
-returns c = search (rules, L.reading_record)
+pub returns-in-Rule : goal.returns-in-Rule
+returns-in-Rule c = rw c.in-Rule.is c.read_rule.ensures

@@ -1,31 +1,20 @@
 use native.Mathlib.Omega.{arith}
+use Rattle.store.proofs.KindLaws.{kind_below}
 use Rattle.loading.proofs.LoadLaws as F
 use Rattle.mapput.proofs.TableLaws as L
 use borrow.Author.Rules.{rules}
 use Rattle.mapput.proofs.put_row.Goals as goal
 
-pub place-a-requires : goal.place-a-requires
-place-a-requires c = search (rules, L.putting_row)
-
-pub width-requires : goal.width-requires
-width-requires c = search (rules, L.putting_row)
-
 pub overflow_add-e : goal.overflow_add-e
-overflow_add-e c = let h = F.row_fits _ _ _ _ c.requires.0 c.requires.1 c.place-a.ensures c.width.ensures in
+overflow_add-e c = let h = F.row_fits _ _ _ _ (kind_below c.args.k) c.requires.0 c.place-a.ensures c.width.ensures in
     omega arith
 
-pub coord_place-c-requires : goal.coord_place-c-requires
-coord_place-c-requires c = search (rules, L.putting_row)
-
-pub coord_width-requires : goal.coord_width-requires
-coord_width-requires c = search (rules, L.putting_row)
-
 pub overflow_add-f : goal.overflow_add-f
-overflow_add-f c = let h = F.coord_row_fits _ _ _ _ c.requires.0 c.requires.1 c.coord_place-c.ensures c.coord_width.ensures in
+overflow_add-f c = let h = F.coord_row_fits _ _ _ _ (kind_below c.args.k) c.requires.0 c.coord_place-c.ensures c.coord_width.ensures in
     omega arith
 
 pub offset_bounds-words-a : goal.offset_bounds-words-a
-offset_bounds-words-a c = let h = F.row_fits _ _ _ _ c.requires.0 c.requires.1 c.place-a.ensures c.width.ensures in
+offset_bounds-words-a c = let h = F.row_fits _ _ _ _ (kind_below c.args.k) c.requires.0 c.place-a.ensures c.width.ensures in
     omega arith
 
 pub slice_bounds-put_record-count : goal.slice_bounds-put_record-count
@@ -35,11 +24,11 @@ pub slice_bounds-put_record-start : goal.slice_bounds-put_record-start
 slice_bounds-put_record-start c = search (rules, L.putting_row)
 
 pub slice_bounds-put_record-end : goal.slice_bounds-put_record-end
-slice_bounds-put_record-end c = let h = F.row_fits _ _ _ _ c.requires.0 c.requires.1 c.place-a.ensures c.width.ensures in
-    omega (arith, c.requires.2)
+slice_bounds-put_record-end c = let h = F.row_fits _ _ _ _ (kind_below c.args.k) c.requires.0 c.place-a.ensures c.width.ensures in
+    omega (arith, c.requires.1)
 
 pub offset_bounds-coords-c : goal.offset_bounds-coords-c
-offset_bounds-coords-c c = let h = F.coord_row_fits _ _ _ _ c.requires.0 c.requires.1 c.coord_place-c.ensures c.coord_width.ensures in
+offset_bounds-coords-c c = let h = F.coord_row_fits _ _ _ _ (kind_below c.args.k) c.requires.0 c.coord_place-c.ensures c.coord_width.ensures in
     omega arith
 
 pub slice_bounds-put_record-count-2 : goal.slice_bounds-put_record-count-2
@@ -49,8 +38,8 @@ pub slice_bounds-put_record-start-2 : goal.slice_bounds-put_record-start-2
 slice_bounds-put_record-start-2 c = search (rules, L.putting_row)
 
 pub slice_bounds-put_record-end-2 : goal.slice_bounds-put_record-end-2
-slice_bounds-put_record-end-2 c = let h = F.coord_row_fits _ _ _ _ c.requires.0 c.requires.1 c.coord_place-c.ensures c.coord_width.ensures in
-    omega (arith, c.requires.3)
+slice_bounds-put_record-end-2 c = let h = F.coord_row_fits _ _ _ _ (kind_below c.args.k) c.requires.0 c.coord_place-c.ensures c.coord_width.ensures in
+    omega (arith, c.requires.2)
 
 pub put_record-requires : goal.put_record-requires
 put_record-requires c = search (rules, L.putting_row)

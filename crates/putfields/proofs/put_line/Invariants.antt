@@ -1,9 +1,5 @@
 use Rattle.putfields.proofs.FieldLaws as L
-use Prim.Native.Nat.{◌-◌}
 use Rattle.putfields.proofs.put_line.Given as goal
 
 abbrev pub invariant-loop-i : goal.invariant-loop-i
-invariant-loop-i l = L.Points l.coords l.c l.n l.initial.out l.initial.q l.out l.q l.at l.i
-
-abbrev pub decreases-loop-i : goal.decreases-loop-i
-decreases-loop-i l = l.n - l.i
+invariant-loop-i l = L.Points l.coords l.c l.n l.initial.out l.initial.q l.out l.q l.rest l.i

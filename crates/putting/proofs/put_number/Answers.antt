@@ -1,36 +1,19 @@
-use Rattle.putting.proofs.PutLaws as L
-use borrow.Author.Rules.{rules}
+use mathlib.Core.Path.{refl, ap, subst}
+use native.Mathlib.Omega.{arith}
+use lib.ListN.{length}
+use Rattle.codec.specs.Format.{Bytes}
+use Rattle.putting.specs.Putting.{PutAt}
+use Rattle.putting.proofs.PutLaws.{number_short, number_front}
 use Rattle.putting.proofs.put_number.Goals as goal
 
-pub enum_known-p : goal.enum_known-p
-enum_known-p c = search (rules, L.putting_form)
+pub write_number-size-requires : goal.write_number-size-requires
+write_number-size-requires c = omega (arith, number_short c.args.n)
 
-pub enum_told-1 : goal.enum_told-1
-enum_told-1 c = search (rules, L.putting_form)
+pub slice_bounds-bytes-end : goal.slice_bounds-bytes-end
+slice_bounds-bytes-end c = omega (arith, number_short c.args.n, c.write_number-size.ensures.next)
 
-pub returns-in_default : goal.returns-in_default
-returns-in_default c = search (rules, L.putting_form)
-
-pub number_size-size-requires : goal.number_size-size-requires
-number_size-size-requires c = search (rules, L.putting_form)
-
-pub overflow_sub-i : goal.overflow_sub-i
-overflow_sub-i c = search (rules, L.putting_form)
-
-pub returns-then-i-size : goal.returns-then-i-size
-returns-then-i-size c = search (rules, L.putting_form)
-
-pub overflow_add-next : goal.overflow_add-next
-overflow_add-next c = search (rules, L.putting_form)
-
-pub returns-then-out-next : goal.returns-then-out-next
-returns-then-out-next c = search (rules, L.putting_form)
-
-pub write_number-requires : goal.write_number-requires
-write_number-requires c = search (rules, L.putting_form)
-
-pub shape_of-out : goal.shape_of-out
-shape_of-out c = search (rules, L.putting_form)
+pub slice_bounds-put_bytes-end : goal.slice_bounds-put_bytes-end
+slice_bounds-put_bytes-end c = omega (arith, ap length (number_front _ _ _ _ refl c.write_number-size.ensures), c.write_number-size.ensures.next)
 
 pub returns : goal.returns
-returns c = search (rules, L.putting_form)
+returns c = subst (λ (f : Bytes). PutAt f c.args.out.now c.args.p c.put_bytes.result c.put_bytes.new.out) (number_front _ _ _ _ refl c.write_number-size.ensures) c.put_bytes.ensures
