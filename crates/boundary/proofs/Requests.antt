@@ -1,4 +1,5 @@
 -- A light by numbers: its request, its lamps, and which numbers are cases. Assumes nothing.
+use Rattle.std.specs.Prelude.{Option}
 use Prim.Native.Nat.{ℕ, ◌+◌, ◌*◌, ◌≤◌, ◌<◌}
 use mathlib.Core.Path.{◌≡◌, sym}
 use mathlib.Core.Bool.{Bool, true, false, not, ◌&&◌, ◌||◌}
@@ -12,7 +13,6 @@ use Rattle.map.specs.declared.SignalKind.{SignalKind}
 use Rattle.map.specs.declared.BulbColor.{BulbColor}
 use Rattle.map.specs.declared.BulbArrow.{BulbArrow}
 use Rattle.place.specs.declared.Placement.{Placement}
-use Rattle.placing.specs.declared.MaybeNumber.{MaybeNumber}
 use Rattle.edit.specs.declared.StopLineChoice.{StopLineChoice}
 use Rattle.edit.specs.declared.Look.{Look}
 use Rattle.edit.specs.declared.Lamps.{Lamps}
@@ -34,7 +34,7 @@ module _ (ns : List ℕ) where
       (record { given = flag (get_or ns 6 0); looks = look_at ns 0 ∷ look_at ns 1 ∷ look_at ns 2 ∷ look_at ns 3 ∷ [] })
   lamps_are a b c d p q r s = rw (p, q, r, s)
 
-  pub request_is : (measure height : Float) (how : Placement) (choice : StopLineChoice) (h : Height) (kind : SignalKind) (lamps : Lamps) (group : MaybeNumber)
+  pub request_is : (measure height : Float) (how : Placement) (choice : StopLineChoice) (h : Height) (kind : SignalKind) (lamps : Lamps) (group : Option ℕ)
       → how ≡ placement_of (get_or ns 2 0) measure → choice ≡ choice_of (get_or ns 0 0) (get_or ns 1 0) how → h ≡ height_of (flag (get_or ns 4 0)) height
       → kind ≡ signal_kind_of (get_or ns 5 0) → lamps ≡ record { given = flag (get_or ns 6 0); looks = look_at ns 0 ∷ look_at ns 1 ∷ look_at ns 2 ∷ look_at ns 3 ∷ [] }
       → group ≡ number_if (flag (get_or ns 15 0)) (get_or ns 16 0)

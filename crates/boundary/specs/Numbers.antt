@@ -1,6 +1,6 @@
 -- The enums of the edits' arguments as numbers, from 0 in the order in which they are declared. Each reader answers the last case for a number that is none;
 -- the tests tell such numbers apart.
-use Rattle.std.specs.Prelude.{ℕ, zero, suc, ◌+◌, ◌*◌, Bool, true, false, not, ◌&&◌, ◌||◌, List, [], ◌∷◌, eqb, ltb, Float, get_or}
+use Rattle.std.specs.Prelude.{ℕ, zero, suc, ◌+◌, ◌*◌, Bool, true, false, not, ◌&&◌, ◌||◌, List, [], ◌∷◌, eqb, ltb, Float, get_or, None, Option, Some}
 use Rattle.map.specs.declared.SignalKind.{SignalKind}
 use Rattle.map.specs.declared.SignalKind.TheVariants.{Vehicle, Pedestrian}
 use Rattle.map.specs.declared.BulbColor.{BulbColor}
@@ -9,8 +9,6 @@ use Rattle.map.specs.declared.BulbArrow.{BulbArrow}
 use Rattle.map.specs.declared.BulbArrow.TheVariants as a
 use Rattle.place.specs.declared.Placement.{Placement}
 use Rattle.place.specs.declared.Placement.TheVariants.{AtLaneEnd, AtStation, Given}
-use Rattle.placing.specs.declared.MaybeNumber.{MaybeNumber}
-use Rattle.placing.specs.declared.MaybeNumber.TheVariants as n
 use Rattle.edit.specs.declared.StopRule.{StopRule}
 use Rattle.edit.specs.declared.StopRule.TheVariants.{StopSign, Marking, NoRule}
 use Rattle.edit.specs.declared.StopLineChoice.{StopLineChoice}
@@ -57,9 +55,9 @@ bulb_arrow_of (suc (suc (suc (suc (suc (suc zero)))))) = a.UpRight
 bulb_arrow_of (suc (suc (suc (suc (suc (suc (suc zero))))))) = a.DownLeft
 bulb_arrow_of (suc (suc (suc (suc (suc (suc (suc (suc k)))))))) = a.DownRight
 
-abbrev pub number_if : Bool → ℕ → MaybeNumber
-number_if true x = n.At x
-number_if false x = n.Nothing
+abbrev pub number_if : Bool → ℕ → Option ℕ
+number_if true x = Some x
+number_if false x = None
 
 abbrev pub height_of : Bool → Float → Height
 height_of true x = h.Metres x

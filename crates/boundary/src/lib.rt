@@ -8,7 +8,6 @@ ghost use Rattle.boundary.specs.Numbers.{placement_of, stop_rule_of, choice_of, 
 use edit::{Height, Lamps, Look, SignalRequest, StopLineChoice, StopRule};
 use map::{BulbArrow, BulbColor, SignalKind};
 use place::Placement;
-use placing::MaybeNumber;
 
 pub fn placement_of(n: u64, x: f64) -> Placement
     ensures { result ≡ placement_of n x }
@@ -89,14 +88,10 @@ fn look_at(ns: &[u64], i: usize) -> Look
     }
 }
 
-pub fn number_if(given: bool, n: u64) -> MaybeNumber
+pub fn number_if(given: bool, n: u64) -> Option<u64>
     ensures { result ≡ number_if given n }
 {
-    if given {
-        MaybeNumber::At(n)
-    } else {
-        MaybeNumber::Nothing
-    }
+    if given { Some(n) } else { None }
 }
 
 pub fn height_of(given: bool, x: f64) -> Height

@@ -2,7 +2,7 @@
 use Prim.Native.Nat.{ℕ, ◌+◌, ◌-◌, ◌≤◌}
 use mathlib.Core.Path.{◌≡◌, sym, ◌∙◌}
 use mathlib.Core.Bool.{Bool, true, false, not, ◌&&◌}
-use mathlib.Core.Option.{none, some}
+use Rattle.std.specs.Prelude.{None, Some}
 use mathlib.Core.List.{List}
 use lib.Ieee.{Float, nan}
 use lib.ListN.{length, get_or, take, drop}
@@ -58,7 +58,7 @@ light_parts row lists reals a m b c d p p' e q q' r r' s = rw (passed a _ p p', 
 
 module _ (row lists : List ℕ) (reals : List Float) (b : Bool) where
   module _ (q : b ≡ line_within row lists reals) where
-    pub line_none : not b ≡ true → (old : Lent) (r : Reply) (new : Lent) → StepLeft none old r new → StepLeft (line_row row lists reals) old r new
+    pub line_none : not b ≡ true → (old : Lent) (r : Reply) (new : Lent) → StepLeft None old r new → StepLeft (line_row row lists reals) old r new
     unfolding line_row
     line_none h old r new s = rw (← q, not-true b h) s
 
@@ -85,7 +85,7 @@ module _ (row lists : List ℕ) (reals : List Float) (b : Bool) where
       line_step lanes x given e₁ e₂ e₃ old r new s = rw (line_inside, ← e₁, ← e₂, ← e₃) s
 
   module _ (q : b ≡ signal_within row lists reals) where
-    pub signal_none : not b ≡ true → (old : Lent) (r : Reply) (new : Lent) → StepLeft none old r new → StepLeft (signal_row row lists reals) old r new
+    pub signal_none : not b ≡ true → (old : Lent) (r : Reply) (new : Lent) → StepLeft None old r new → StepLeft (signal_row row lists reals) old r new
     unfolding signal_row
     signal_none h old r new s = rw (← q, not-true b h) s
 
@@ -125,7 +125,7 @@ module _ (row lists : List ℕ) (reals : List Float) (b : Bool) where
       signal_step m em lanes ns x y e₁ e₂ e₃ e₄ old r new s = rw (signal_inside, ← em, ← e₁, ← e₂, ← e₃, ← e₄) s
 
 module _ (row lists : List ℕ) (b : Bool) (q : b ≡ links_within row lists) where
-  pub links_none : not b ≡ true → (old : Lent) (r : Reply) (new : Lent) → StepLeft none old r new → StepLeft (links_row row lists) old r new
+  pub links_none : not b ≡ true → (old : Lent) (r : Reply) (new : Lent) → StepLeft None old r new → StepLeft (links_row row lists) old r new
   unfolding links_row
   links_none h old r new s = rw (← q, not-true b h) s
 
@@ -147,7 +147,7 @@ module _ (row lists : List ℕ) (b : Bool) (q : b ≡ links_within row lists) wh
 
     pub links_step : (lanes crosswalks stop_lines : List ℕ)
         → lanes ≡ cut lists (get_or row 1 0) (get_or row 2 0) → crosswalks ≡ cut lists (get_or row 4 0) (get_or row 5 0) → stop_lines ≡ cut lists (get_or row 6 0) (get_or row 7 0)
-        → (old : Lent) (r : Reply) (new : Lent) → StepLeft (some (links_by (get_or row 3 0) lanes crosswalks stop_lines)) old r new → StepLeft (links_row row lists) old r new
+        → (old : Lent) (r : Reply) (new : Lent) → StepLeft (Some (links_by (get_or row 3 0) lanes crosswalks stop_lines)) old r new → StepLeft (links_row row lists) old r new
     unfolding links_row
     links_step lanes crosswalks stop_lines e₁ e₂ e₃ old r new s = rw (links_inside, ← e₁, ← e₂, ← e₃) s
 
@@ -166,6 +166,6 @@ module _ (row lists : List ℕ) (reals : List Float) (old : Lent) (r : Reply) (n
   unfolding call_at
   is_links q s = rw q s
 
-  pub is_none : (get_or row 0 0 ≡ 1 → ⊥) → (get_or row 0 0 ≡ 2 → ⊥) → (get_or row 0 0 ≡ 3 → ⊥) → StepLeft none old r new → StepLeft (call_at row lists reals) old r new
+  pub is_none : (get_or row 0 0 ≡ 1 → ⊥) → (get_or row 0 0 ≡ 2 → ⊥) → (get_or row 0 0 ≡ 3 → ⊥) → StepLeft None old r new → StepLeft (call_at row lists reals) old r new
   unfolding call_at
   is_none a b c s = rw (ne_eqb _ 1 a, ne_eqb _ 2 b, ne_eqb _ 3 c) s

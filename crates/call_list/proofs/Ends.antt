@@ -2,7 +2,7 @@
 use Prim.Native.Nat.{ℕ, ◌*◌, ◌/◌, ◌<◌, ◌≤◌}
 use mathlib.Core.Path.{◌≡◌, refl, sym, ap, subst, ◌∙◌}
 use mathlib.Core.Bool.{Bool, true, false}
-use mathlib.Core.Option.{Option}
+use Rattle.std.specs.Prelude.{Option, Err, Ok, Result}
 use mathlib.Core.List.{List, [], ◌++◌}
 use lib.Dec.{ltb}
 use lib.ListN.{length, drop}
@@ -17,8 +17,6 @@ use Rattle.rows.proofs.Indexed.{length-list_to}
 use Rattle.map.specs.Record.{Map}
 use Rattle.map.specs.MapFile.{is_map}
 use Rattle.changes.specs.Running.{State, opening}
-use Rattle.placing.specs.declared.Checked.{Checked}
-use Rattle.placing.specs.declared.Checked.TheVariants as k
 use Rattle.placing.specs.Answers.{checked}
 use Rattle.edit.specs.Lent.{Lent, state_of}
 use Rattle.finishing.specs.Finish.{lent_checks}
@@ -27,8 +25,6 @@ use Rattle.run.specs.Run.{Edit, run_all}
 use Rattle.run.specs.Law.{RunLaw}
 use Rattle.run.proofs.Runs.{run_append, run_law}
 use Rattle.call_list.specs.Reply.{reply_length}
-use Rattle.call_list.specs.declared.Ran.{Ran}
-use Rattle.call_list.specs.declared.Ran.TheVariants as R
 use Rattle.call_list.specs.Step.{Fitting, Held, held_of}
 use Rattle.call_list.specs.Rows.{edits_of}
 use Rattle.call_list.specs.Ran.{ran, room_answer, run_answer, RowsLeft, RunLeft}
@@ -48,11 +44,11 @@ module _ (n : ℕ) (answers : List ℕ) where
 -- ---- what is tested of a list of calls
 
 module _ (l : Lent) (n : ℕ) (answers : List ℕ) where
-  pub lent_refused : (c : Checked) (x : Refusal) → checked c ≡ lent_checks l → c ≡ k.Refused x → refused_as x ≡ run_answer n l answers
+  pub lent_refused : (c : Result (Unit {0}) Refusal) (x : Refusal) → checked c ≡ lent_checks l → c ≡ Err x → refused_as x ≡ run_answer n l answers
   unfolding run_answer
   lent_refused c x h e = rw (← h, e)
 
-  pub by_room : (c : Checked) (r : Ran) → checked c ≡ lent_checks l → c ≡ k.Fine → ran r ≡ room_answer n answers → ran r ≡ run_answer n l answers
+  pub by_room : (c : Result (Unit {0}) Refusal) (r : Result ℕ Refusal) → checked c ≡ lent_checks l → c ≡ (Ok tt) → ran r ≡ room_answer n answers → ran r ≡ run_answer n l answers
   unfolding run_answer
   by_room c r h e q = rw (← h, e) q
 
@@ -106,11 +102,11 @@ module _ (f : ℕ → Option Edit) (n : ℕ) (old : Lent) (answers : List ℕ) w
   answer_is : (a : Answer ℕ) → a ≡ run_answer n old answers → a ≡ run_answer (length (list_to f n)) old answers
   answer_is a h = rw (length-list_to f n) h
 
-  pub left_refused : (x : Refusal) → refused_as x ≡ run_answer n old answers → RunLeft (list_to f n) old answers (R.Refused x) old answers
+  pub left_refused : (x : Refusal) → refused_as x ≡ run_answer n old answers → RunLeft (list_to f n) old answers (Err x) old answers
   left_refused x h = record { answer = answer_is _ h; left = λ q. clash refl q; law = λ q. clash refl q; kept = λ q. (refl, refl) }
 
   pub left_done : (m : ℕ) (new : Lent) (answers' : List ℕ) → done m ≡ run_answer n old answers → RowsLeft (list_to f m) old answers new answers'
-      → RunLeft (list_to f n) old answers (R.Done m) new answers'
+      → RunLeft (list_to f n) old answers (Ok m) new answers'
   left_done m new answers' h g =
       let e = (all_fit old answers n m h).count in
       let k = subst (λ (i : ℕ). RowsLeft (list_to f i) old answers new answers') e g in

@@ -2,7 +2,7 @@
 use Prim.Native.Nat.{ℕ, ◌≤◌, ◌<◌}
 use mathlib.Core.Path.{◌≡◌, refl}
 use mathlib.Core.Bool.{Bool, true, false, not}
-use mathlib.Core.Option.{none, some}
+use Rattle.std.specs.Prelude.{None, Some, Option, Result}
 use mathlib.Core.List.{List}
 use lib.Dec.{ltb}
 use lib.Ieee.{Float}
@@ -12,7 +12,6 @@ use Rattle.changes.specs.declared.Tally.{Tally}
 use Rattle.place.specs.declared.Placement.{Placement}
 use Rattle.edit.specs.declared.StopRule.{StopRule}
 use Rattle.edit.specs.declared.SignalRequest.{SignalRequest}
-use Rattle.edit.specs.declared.Called.{Called}
 use Rattle.edit.specs.StopLine.{add_stop_line}
 use Rattle.edit.specs.Light.{add_traffic_signal}
 use Rattle.edit.specs.Links.{set_regulatory_links}
@@ -27,10 +26,12 @@ use Rattle.call_list.specs.Reply.{Replied}
 use Rattle.call_list.specs.Step.{StepLeft}
 use Rattle.call_list.specs.Rows.{line_by, light_by, links_by}
 use Rattle.call_list.proofs.Steps.{lent, none_called, was_called}
+use Rattle.refusal.specs.declared.Refusal.{Refusal}
+use Rattle.place.specs.declared.SectionNames.{SectionNames}
 
 -- ---- what is no call
 
-module _ (old : Lent) (r : Reply) (new : Lent) (h : StepLeft none old r new) where
+module _ (old : Lent) (r : Reply) (new : Lent) (h : StepLeft None old r new) where
   module _ (lanes : List ℕ) (p : ℕ) (x : Float) (given : List Float) (rule : ℕ) where
     pub no_placement : 2 < p → StepLeft (line_by lanes p x given rule) old r new
     unfolding line_by stop_line_by
@@ -47,7 +48,7 @@ module _ (old : Lent) (r : Reply) (new : Lent) (h : StepLeft none old r new) whe
 
 -- ---- what is called: a and t are its answer and its tally, r and u the words of the answer and the tally that is answered
 
-module _ (old : Lent) (a : Called) (ws : List ℕ) (cs : List Float) (f : List ℕ) (t : Tally) (s : List ℕ) (r : Reply) (u : Tally) (w : (Replied a r) × (u ≡ t)) where
+module _ (old : Lent) (a : Result (ℕ × Option SectionNames) Refusal) (ws : List ℕ) (cs : List Float) (f : List ℕ) (t : Tally) (s : List ℕ) (r : Reply) (u : Tally) (w : (Replied a r) × (u ≡ t)) where
   pub line_called : (lanes : List ℕ) (p : ℕ) (x : Float) (given : List Float) (rule : ℕ) → p ≤ 2 → rule ≤ 2 → (how : Placement) (made : StopRule) → how ≡ placement_of p x → made ≡ stop_rule_of rule
       → CallLeft (add_stop_line (record { lanes = lanes; placement = how; points = given; rule = made })) old a (lent ws cs f t s) → StepLeft (line_by lanes p x given rule) old r (lent ws cs f u s)
   unfolding line_by stop_line_by run_one
@@ -63,6 +64,6 @@ module _ (old : Lent) (a : Called) (ws : List ℕ) (cs : List Float) (f : List �
 
   pub links_called : (rule : ℕ) (lanes crosswalks stop_lines : List ℕ)
       → CallLeft (set_regulatory_links (record { rule = rule; lanes = lanes; crosswalks = crosswalks; stop_lines = stop_lines })) old a (lent ws cs f t s)
-      → StepLeft (some (links_by rule lanes crosswalks stop_lines)) old r (lent ws cs f u s)
+      → StepLeft (Some (links_by rule lanes crosswalks stop_lines)) old r (lent ws cs f u s)
   unfolding run_one
   links_called rule lanes crosswalks stop_lines l = was_called _ (links_by rule lanes crosswalks stop_lines) old a ws cs f t s r u refl l w.0 w.1

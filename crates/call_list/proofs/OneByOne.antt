@@ -1,12 +1,10 @@
 -- Calls made one by one come to the definition's run. Assumes nothing.
 use mathlib.Core.Path.{◌≡◌, refl, sym, ap, subst, ◌∙◌}
 use mathlib.Core.Bool.{true}
-use mathlib.Core.Option.{some}
+use Rattle.std.specs.Prelude.{Some, Err, Ok, Option, Result, ℕ}
 use mathlib.Core.List.{List, [], ◌∷◌}
 use Rattle.refusal.specs.Answer.{Answer}
 use Rattle.changes.specs.Running.{State}
-use Rattle.edit.specs.declared.Called.{Called}
-use Rattle.edit.specs.declared.Called.TheVariants as c
 use Rattle.edit.specs.Edit.{Outcome}
 use Rattle.edit.specs.Lent.{Lent, state_of, answered, is_refused, CallLeft}
 use Rattle.run.specs.Run.{Edit, run_one, state_after, run_all}
@@ -15,17 +13,19 @@ use Rattle.run.proofs.Runs.{run_law}
 use Rattle.call_list.specs.Step.{Fitting, call_of}
 use Rattle.call_list.specs.OneByOne.{SameLengths, CallsMade, no_call, and_then, OneByOneLaw}
 use Rattle.call_list.proofs.Steps.{lent_run}
+use Rattle.refusal.specs.declared.Refusal.{Refusal}
+use Rattle.place.specs.declared.SectionNames.{SectionNames}
 
 fit_after : (old new : Lent) → Fitting old → SameLengths old new → Fitting new
 fit_after old new f s = record { words = s.words ∙ f.words; coords = s.coords ∙ f.coords; fold = s.fold ∙ f.fold; set = s.set ∙ f.set }
 
-call_state : (e : Edit) (old : Lent) (x : Called) (new : Lent) → Fitting old → CallLeft (run_one e) old x new → state_of new ≡ state_after (state_of old) (run_one e (state_of old))
+call_state : (e : Edit) (old : Lent) (x : Result (ℕ × Option SectionNames) Refusal) (new : Lent) → Fitting old → CallLeft (run_one e) old x new → state_of new ≡ state_after (state_of old) (run_one e (state_of old))
 unfolding call_of
-call_state e old x new f h = go x (h.answer ∙ lent_run (some e) old f) h.kept
+call_state e old x new f h = go x (h.answer ∙ lent_run (Some e) old f) h.kept
   where
-    go : (x : Called) → answered x new ≡ run_one e (state_of old) → (is_refused x ≡ true → new ≡ old) → state_of new ≡ state_after (state_of old) (run_one e (state_of old))
-    go (c.Done n es) a k = subst (λ (y : Answer Outcome). state_of new ≡ state_after (state_of old) y) a refl
-    go (c.Refused y) a k = subst (λ (z : Answer Outcome). state_of new ≡ state_after (state_of old) z) a (ap state_of (k refl))
+    go : (x : Result (ℕ × Option SectionNames) Refusal) → answered x new ≡ run_one e (state_of old) → (is_refused x ≡ true → new ≡ old) → state_of new ≡ state_after (state_of old) (run_one e (state_of old))
+    go (Ok (n, es)) a k = subst (λ (y : Answer Outcome). state_of new ≡ state_after (state_of old) y) a refl
+    go (Err y) a k = subst (λ (z : Answer Outcome). state_of new ≡ state_after (state_of old) z) a (ap state_of (k refl))
 
 made_state : (es : List Edit) (old new : Lent) → Fitting old → CallsMade es old new → state_of new ≡ run_all es (state_of old)
 unfolding run_all

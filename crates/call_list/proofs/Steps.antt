@@ -2,7 +2,7 @@
 use Prim.Native.Nat.{ℕ}
 use mathlib.Core.Path.{◌≡◌, refl, sym, ap, subst, ◌∙◌}
 use mathlib.Core.Bool.{Bool, true, false, not, ◌&&◌}
-use mathlib.Core.Option.{Option, none, some}
+use Rattle.std.specs.Prelude.{Option, None, Some, Result, Err, Ok}
 use mathlib.Core.List.{List, []}
 use lib.Dec.{eqb}
 use lib.Ieee.{Float}
@@ -17,10 +17,7 @@ use Rattle.changes.specs.declared.Tally.{Tally}
 use Rattle.changes.specs.ChangeFile.{lists_ok}
 use Rattle.changes.specs.Layout.{set_words}
 use Rattle.changes.specs.Running.{State, fold_ok}
-use Rattle.placing.specs.declared.Checked.{Checked}
 use Rattle.placing.specs.Answers.{checked}
-use Rattle.edit.specs.declared.Called.{Called}
-use Rattle.edit.specs.declared.Called.TheVariants as c
 use Rattle.edit.specs.Edit.{Draft, Outcome, finish, call}
 use Rattle.edit.specs.StopLine.{add_stop_line}
 use Rattle.edit.specs.Light.{add_traffic_signal}
@@ -32,15 +29,17 @@ use Rattle.run.specs.Run.{Edit, line, signal, links, run_one}
 use Rattle.call_list.specs.declared.Reply.{Reply}
 use Rattle.call_list.specs.Reply.{reply_of, no_such_call, reply_words, Replied, NoCallReplied}
 use Rattle.call_list.specs.Step.{Fitting, Held, held_of, held_after, call_of, StepLeft}
+use Rattle.refusal.specs.declared.Refusal.{Refusal}
+use Rattle.place.specs.declared.SectionNames.{SectionNames}
 
 -- ---- on slices of the tables' lengths a call is the definition's call on what they stand for
 
 no_map_lem : (o : Option Edit) (s : State) → is_map s.map ≡ false → call_of o s ≡ refused 12 []
 unfolding call_of run_one add_stop_line add_traffic_signal set_regulatory_links call
-no_map_lem none s q = rw q
-no_map_lem (some (line a)) s q = rw q
-no_map_lem (some (signal a)) s q = rw q
-no_map_lem (some (links a)) s q = rw q
+no_map_lem None s q = rw q
+no_map_lem (Some (line a)) s q = rw q
+no_map_lem (Some (signal a)) s q = rw q
+no_map_lem (Some (links a)) s q = rw q
 
 pub lent_run : (o : Option Edit) (l : Lent) → Fitting l → lent_call (call_of o) l ≡ call_of o (state_of l)
 unfolding lent_call is_map_tables
@@ -53,7 +52,7 @@ lent_run o l f = go (is_map (map_of l.words l.coords)) refl
 -- ---- what is no call
 
 -- 12 and 13, then an answer of its own
-no_call_is : (l : Lent) → lent_call (call_of none) l ≡ (lent_checks l >> refused no_such_call [])
+no_call_is : (l : Lent) → lent_call (call_of None) l ≡ (lent_checks l >> refused no_such_call [])
 unfolding call_of steps planned
 no_call_is l = call_is (λ m. refused no_such_call []) l ∙ go (lent_checks l)
   where
@@ -62,7 +61,7 @@ no_call_is l = call_is (λ m. refused no_such_call []) l ∙ go (lent_checks l)
     go (done u) = refl
 
 -- it leaves all as it was
-pub no_call_held : (h : Held) → held_after h (call_of none h.state) ≡ h
+pub no_call_held : (h : Held) → held_after h (call_of None h.state) ≡ h
 unfolding call_of call
 no_call_held h = go (not (is_map h.state.map)) (not (lists_ok h.state.fold && fold_ok h.state))
   where
@@ -73,19 +72,19 @@ no_call_held h = go (not (is_map h.state.map)) (not (lists_ok h.state.fold && fo
 
 -- ---- the outcome of a row
 
-pub step_done : (e : Edit) (old : Lent) (x : Called) (new : Lent) (r : Reply) → CallLeft (run_one e) old x new → Replied x r → StepLeft (some e) old r new
+pub step_done : (e : Edit) (old : Lent) (x : Result (ℕ × Option SectionNames) Refusal) (new : Lent) (r : Reply) → CallLeft (run_one e) old x new → Replied x r → StepLeft (Some e) old r new
 unfolding call_of
 step_done e old x new r h w = record { reply = w.words new ∙ ap reply_of h.answer; held = held x h.answer h.kept; kept = kept x h.kept (w.words new) }
   where
-    held : (x : Called) → answered x new ≡ lent_call (run_one e) old → (is_refused x ≡ true → new ≡ old) → held_of new ≡ held_after (held_of old) (lent_call (run_one e) old)
-    held (c.Done n es) a k = subst (λ (x : Answer Outcome). held_of new ≡ held_after (held_of old) x) a refl
-    held (c.Refused y) a k = subst (λ (x : Answer Outcome). held_of new ≡ held_after (held_of old) x) a (ap held_of (k refl))
+    held : (x : Result (ℕ × Option SectionNames) Refusal) → answered x new ≡ lent_call (run_one e) old → (is_refused x ≡ true → new ≡ old) → held_of new ≡ held_after (held_of old) (lent_call (run_one e) old)
+    held (Ok (n, es)) a k = subst (λ (x : Answer Outcome). held_of new ≡ held_after (held_of old) x) a refl
+    held (Err y) a k = subst (λ (x : Answer Outcome). held_of new ≡ held_after (held_of old) x) a (ap held_of (k refl))
 
-    kept : (x : Called) → (is_refused x ≡ true → new ≡ old) → reply_words r ≡ reply_of (answered x new) → eqb r.what 0 ≡ false → new ≡ old
-    kept (c.Done n es) k w q = clash (eq-eqb r.what 0 (ap (λ (l : List ℕ). get_or l 0 0) w)) q
-    kept (c.Refused y) k w q = k refl
+    kept : (x : Result (ℕ × Option SectionNames) Refusal) → (is_refused x ≡ true → new ≡ old) → reply_words r ≡ reply_of (answered x new) → eqb r.what 0 ≡ false → new ≡ old
+    kept (Ok (n, es)) k w q = clash (eq-eqb r.what 0 (ap (λ (l : List ℕ). get_or l 0 0) w)) q
+    kept (Err y) k w q = k refl
 
-pub step_none : (old : Lent) (k : Checked) (r : Reply) → checked k ≡ lent_checks old → NoCallReplied k r → StepLeft none old r old
+pub step_none : (old : Lent) (k : Result (Unit {0}) Refusal) (r : Reply) → checked k ≡ lent_checks old → NoCallReplied k r → StepLeft None old r old
 step_none old k r e w =
     let a = no_call_is old in
     record { reply = rw (a, ← e) w.words; held = rw a (go (lent_checks old)); kept = λ q. refl }
@@ -100,9 +99,9 @@ abbrev pub lent : List ℕ → List Float → List ℕ → Tally → List ℕ �
 lent ws cs f t s = record { words = ws; coords = cs; fold = f; tally = t; set = s }
 
 -- what is shown to be no call
-pub none_called : (o : Option Edit) (old : Lent) (r : Reply) (new : Lent) → o ≡ none → StepLeft none old r new → StepLeft o old r new
+pub none_called : (o : Option Edit) (old : Lent) (r : Reply) (new : Lent) → o ≡ None → StepLeft None old r new → StepLeft o old r new
 none_called o old r new p h = rw p h
 
-pub was_called : (o : Option Edit) (e : Edit) (old : Lent) (x : Called) (ws : List ℕ) (cs : List Float) (f : List ℕ) (t : Tally) (s : List ℕ) (r : Reply) (t' : Tally)
-    → o ≡ some e → CallLeft (run_one e) old x (lent ws cs f t s) → Replied x r → t' ≡ t → StepLeft o old r (lent ws cs f t' s)
+pub was_called : (o : Option Edit) (e : Edit) (old : Lent) (x : Result (ℕ × Option SectionNames) Refusal) (ws : List ℕ) (cs : List Float) (f : List ℕ) (t : Tally) (s : List ℕ) (r : Reply) (t' : Tally)
+    → o ≡ Some e → CallLeft (run_one e) old x (lent ws cs f t s) → Replied x r → t' ≡ t → StepLeft o old r (lent ws cs f t' s)
 was_called o e old x ws cs f t s r t' p h w q = rw (p, q) (step_done e old x (lent ws cs f t s) r h w)

@@ -1,7 +1,7 @@
 -- A list of calls, row by row: what is left to do at row i, and what the end is. Assumes nothing.
 use Prim.Native.Nat.{ℕ, ◌+◌, ◌-◌, ◌*◌, ◌≤◌, ◌<◌}
 use mathlib.Core.Path.{◌≡◌, refl, sym, ap, ◌∙◌}
-use mathlib.Core.Option.{Option, none, some}
+use Rattle.std.specs.Prelude.{Option, None, Some}
 use mathlib.Core.List.{List, [], ◌∷◌, ◌++◌, append_assoc, append-nil}
 use lib.ListN.{length, take, drop, length-take, length-append, take-append-drop}
 use lib.Seq.{take_all, take_at, drop_at, drop-drop}
@@ -48,14 +48,14 @@ after-set h (done o) cs = refl
 pub walk_state : (rows : List (Option Edit)) (h : Held) → (walk rows h).state ≡ run_all (edits_of rows) h.state
 unfolding walk run_all edits_of joined call_of
 walk_state [] h = refl
-walk_state (none ∷ rows) h = ap (λ (k : Held). (walk rows k).state) (no_call_held h) ∙ walk_state rows h
-walk_state (some e ∷ rows) h = walk_state rows (held_after h (run_one e h.state)) ∙ ap (run_all (edits_of rows)) (after_state h (run_one e h.state))
+walk_state (None ∷ rows) h = ap (λ (k : Held). (walk rows k).state) (no_call_held h) ∙ walk_state rows h
+walk_state (Some e ∷ rows) h = walk_state rows (held_after h (run_one e h.state)) ∙ ap (run_all (edits_of rows)) (after_state h (run_one e h.state))
 
 pub walk_set : (rows : List (Option Edit)) (h : Held) → (walk rows h).set ≡ last_set h.set (sets_of (edits_of rows) h.state)
 unfolding walk sets_of edits_of joined last_set call_of
 walk_set [] h = refl
-walk_set (none ∷ rows) h = ap (λ (k : Held). (walk rows k).set) (no_call_held h) ∙ walk_set rows h
-walk_set (some e ∷ rows) h =
+walk_set (None ∷ rows) h = ap (λ (k : Held). (walk rows k).set) (no_call_held h) ∙ walk_set rows h
+walk_set (Some e ∷ rows) h =
     walk_set rows (held_after h (run_one e h.state))
     ∙ ap (λ (s : State). last_set (held_after h (run_one e h.state)).set (sets_of (edits_of rows) s)) (after_state h (run_one e h.state))
     ∙ after-set h (run_one e h.state) (sets_of (edits_of rows) (state_after h.state (run_one e h.state)))
@@ -151,9 +151,9 @@ pub going_end : (f : ℕ → Option Edit) (n : ℕ) (h : Held) (answers : List �
 unfolding walk told
 going_end f n h answers i l answers' q g =
     let e : i ≡ n = omega (arith, g.at) in
-    let none = tab_none f n i q in (
-      ap (λ (t : List (Option Edit)). walk t (held_of l)) (sym none) ∙ g.held,
+    let None = tab_none f n i q in (
+      ap (λ (t : List (Option Edit)). walk t (held_of l)) (sym None) ∙ g.held,
       sym (take-append-drop (i * reply_length) answers')
-          ∙ ap (λ (t : List ℕ). t ++ drop (i * reply_length) answers') (sym (append-nil (take (i * reply_length) answers')) ∙ ap (λ (t : List (Option Edit)). take (i * reply_length) answers' ++ told t (held_of l)) (sym none) ∙ g.words)
+          ∙ ap (λ (t : List ℕ). t ++ drop (i * reply_length) answers') (sym (append-nil (take (i * reply_length) answers')) ∙ ap (λ (t : List (Option Edit)). take (i * reply_length) answers' ++ told t (held_of l)) (sym None) ∙ g.words)
           ∙ ap (λ (t : List ℕ). told (list_to f n) h ++ t) (g.rest ∙ ap (λ (k : ℕ). drop (k * reply_length) answers) e),
     )

@@ -1,13 +1,14 @@
 -- Calls made one by one by a caller who has only their contracts: each on the memory that the last one left. What every run promises, for these too.
-use Rattle.std.specs.Prelude.{◌≡◌, true, List, [], ◌∷◌, length}
+use Rattle.std.specs.Prelude.{◌≡◌, true, List, [], ◌∷◌, length, Option, Result, ℕ}
 use Rattle.map.specs.Record.{Map}
 use Rattle.map.specs.MapFile.{is_map}
 use Rattle.changes.specs.Running.{opening}
-use Rattle.edit.specs.declared.Called.{Called}
 use Rattle.edit.specs.Lent.{Lent, state_of, CallLeft}
 use Rattle.run.specs.Run.{Edit, run_one}
 use Rattle.run.specs.Law.{RunLaw}
 use Rattle.call_list.specs.Step.{Fitting}
+use Rattle.refusal.specs.declared.Refusal.{Refusal}
+use Rattle.place.specs.declared.SectionNames.{SectionNames}
 
 -- slices keep their lengths
 pub record SameLengths (old new : Lent) : Type 0 where
@@ -18,7 +19,7 @@ pub record SameLengths (old new : Lent) : Type 0 where
 
 -- one call, as its contract has it: accepted or refused, on the memory old, which it leaves as new
 pub record CallMade (e : Edit) (old new : Lent) : Type 0 where
-  pub answer : Called
+  pub answer : Result (ℕ × Option SectionNames) Refusal
   pub left : CallLeft (run_one e) old answer new
   pub lengths : SameLengths old new
 

@@ -1,6 +1,5 @@
 -- A list of calls carried out on lent memory, one after another.
-use Rattle.std.specs.Prelude.{ℕ, ◌*◌, ◌≡◌, Bool, true, false, List, [], ◌∷◌, ◌++◌, ltb, length, drop}
-use Rattle.std.proofs.Math.Option.{Option}
+use Rattle.std.specs.Prelude.{ℕ, ◌*◌, ◌≡◌, Bool, true, false, List, [], ◌∷◌, ◌++◌, ltb, length, drop, Option, Err, Ok, Result}
 use Rattle.refusal.specs.Answer.{Answer, done, refused_as, ◌>>◌, refuse_when}
 use Rattle.map.specs.Record.{Map}
 use Rattle.map.specs.MapFile.{is_map}
@@ -11,11 +10,10 @@ use Rattle.edit.specs.Lent.{Lent, state_of}
 use Rattle.finishing.specs.Finish.{lent_checks}
 use Rattle.run.specs.Run.{Edit, state_after, run_all, sets_of}
 use Rattle.run.specs.Law.{RunLaw}
-use Rattle.call_list.specs.declared.Ran.{Ran}
-use Rattle.call_list.specs.declared.Ran.TheVariants as R
 use Rattle.call_list.specs.Reply.{reply_of, reply_length}
 use Rattle.call_list.specs.Step.{call_of}
 use Rattle.call_list.specs.Rows.{edits_of}
+use Rattle.refusal.specs.declared.Refusal.{Refusal}
 
 -- the answers, row by row, each on what the rows before it left
 unfoldable pub replies : List (Option Edit) → State → List ℕ
@@ -27,13 +25,13 @@ unfoldable pub last_set : ChangeSet → List ChangeSet → ChangeSet
 last_set c [] = c
 last_set c (d ∷ ds) = last_set d ds
 
-abbrev pub ran : Ran → Answer ℕ
-ran (R.Done n) = done n
-ran (R.Refused x) = refused_as x
+abbrev pub ran : Result ℕ Refusal → Answer ℕ
+ran (Ok n) = done n
+ran (Err x) = refused_as x
 
-abbrev pub is_refused : Ran → Bool
-is_refused (R.Done n) = false
-is_refused (R.Refused x) = true
+abbrev pub is_refused : Result ℕ Refusal → Bool
+is_refused (Ok n) = false
+is_refused (Err x) = true
 
 -- 14 for a slice of answers that is too short for n rows
 unfoldable pub room_answer : ℕ → List ℕ → Answer ℕ
@@ -54,7 +52,7 @@ pub record RowsLeft (rows : List (Option Edit)) (old : Lent) (answers : List ℕ
   pub replied : answers' ≡ replies rows (state_of old) ++ drop (length rows * reply_length) answers
 
 -- the whole outcome of a list of calls
-pub record RunLeft (rows : List (Option Edit)) (old : Lent) (answers : List ℕ) (r : Ran) (new : Lent) (answers' : List ℕ) : Type 0 where
+pub record RunLeft (rows : List (Option Edit)) (old : Lent) (answers : List ℕ) (r : Result ℕ Refusal) (new : Lent) (answers' : List ℕ) : Type 0 where
   pub answer : ran r ≡ run_answer (length rows) old answers
   pub left : is_refused r ≡ false → RowsLeft rows old answers new answers'
   -- where the memory is where a run of es from the opening of m ends, the law of every run holds of es and these calls after them

@@ -1,6 +1,5 @@
 -- A list of calls in plain memory: rows of 28 words, and two pools, of numbers and of measures, in which the rows' lists stand.
-use Rattle.std.specs.Prelude.{ℕ, ◌+◌, ◌*◌, ◌/◌, Bool, not, ◌&&◌, ◌||◌, cond, List, [], ◌∷◌, eqb, leb, ltb, Float, length, get_or}
-use Rattle.std.proofs.Math.Option.{Option, none, some}
+use Rattle.std.specs.Prelude.{ℕ, ◌+◌, ◌*◌, ◌/◌, Bool, not, ◌&&◌, ◌||◌, cond, List, [], ◌∷◌, eqb, leb, ltb, Float, length, get_or, Option, None, Some}
 use Rattle.std.specs.Float.{nan}
 use Rattle.rows.specs.Lists.{list_to, joined}
 use Rattle.rows.specs.Rows.{cut}
@@ -32,12 +31,12 @@ measure read pool at = cond read (get_or pool at nan) f0
 -- ---- calls by numbers: a number that is no case is no call
 
 abbrev pub line_of : Option NewStopLine → Option Edit
-line_of none = none
-line_of (some a) = some (line a)
+line_of None = None
+line_of (Some a) = Some (line a)
 
 abbrev pub signal_of : Option NewTrafficSignal → Option Edit
-signal_of none = none
-signal_of (some a) = some (signal a)
+signal_of None = None
+signal_of (Some a) = Some (signal a)
 
 unfoldable pub line_by : List ℕ → ℕ → Float → List Float → ℕ → Option Edit
 line_by lanes placement measure given rule = line_of (stop_line_by lanes placement measure given rule)
@@ -66,7 +65,7 @@ line_within row lists reals =
 unfoldable pub line_row : List ℕ → List ℕ → List Float → Option Edit
 line_row row lists reals =
     let w : ℕ → ℕ = λ i. get_or row i 0 in
-    cond (line_within row lists reals) (line_by (cut lists (w 1) (w 2)) (w 3) (measure (measured (w 3)) reals (w 5)) (part (pointed (w 3)) reals (w 6) (w 7)) (w 4)) none
+    cond (line_within row lists reals) (line_by (cut lists (w 1) (w 2)) (w 3) (measure (measured (w 3)) reals (w 5)) (part (pointed (w 3)) reals (w 6) (w 7)) (w 4)) None
 
 -- a light's measure and its given line are read where the line is new: word 3 is its choice, word 5 the placement
 abbrev pub light_measured : List ℕ → Bool
@@ -89,7 +88,7 @@ signal_row row lists reals =
     cond (signal_within row lists reals)
     (light_by (cut lists (w 1) (w 2)) (cut row 3 17) (measure (light_measured row) reals (w 20)) (measure (flag (w 7)) reals (w 21)) (part (light_pointed row) reals (w 22) (w 23))
     (part (flag (w 6)) reals (w 24) (w 25)) (part (flag (w 9)) reals (w 26) (w 27)))
-    none
+    None
 
 -- 3 the rule, 4 and 5 the crosswalks, 6 and 7 the lines
 unfoldable pub links_within : List ℕ → List ℕ → Bool
@@ -98,13 +97,13 @@ links_within row lists = within lists (get_or row 1 0) (get_or row 2 0) && withi
 unfoldable pub links_row : List ℕ → List ℕ → Option Edit
 links_row row lists =
     let w : ℕ → ℕ = λ i. get_or row i 0 in
-    cond (links_within row lists) (some (links_by (w 3) (cut lists (w 1) (w 2)) (cut lists (w 4) (w 5)) (cut lists (w 6) (w 7)))) none
+    cond (links_within row lists) (Some (links_by (w 3) (cut lists (w 1) (w 2)) (cut lists (w 4) (w 5)) (cut lists (w 6) (w 7)))) None
 
 -- 1 a stop line, 2 a light, 3 links; anything else is no call
 unfoldable pub call_at : List ℕ → List ℕ → List Float → Option Edit
 call_at row lists reals =
     cond (eqb (get_or row 0 0) 1) (line_row row lists reals)
-    (cond (eqb (get_or row 0 0) 2) (signal_row row lists reals) (cond (eqb (get_or row 0 0) 3) (links_row row lists) none))
+    (cond (eqb (get_or row 0 0) 2) (signal_row row lists reals) (cond (eqb (get_or row 0 0) 3) (links_row row lists) None))
 
 -- row i
 abbrev pub row_at : List ℕ → List ℕ → List Float → ℕ → Option Edit
@@ -115,8 +114,8 @@ unfoldable pub rows_in : List ℕ → List ℕ → List Float → List (Option E
 rows_in calls lists reals = list_to (row_at calls lists reals) (length calls / row_words)
 
 abbrev pub if_call : Option Edit → List Edit
-if_call none = []
-if_call (some e) = e ∷ []
+if_call None = []
+if_call (Some e) = e ∷ []
 
 -- those that are calls
 unfoldable pub edits_of : List (Option Edit) → List Edit

@@ -1,6 +1,5 @@
 -- One call of a list carried out on lent memory.
-use Rattle.std.specs.Prelude.{◌≡◌, false, [], eqb, length}
-use Rattle.std.proofs.Math.Option.{Option, none, some}
+use Rattle.std.specs.Prelude.{◌≡◌, false, [], eqb, length, Option, None, Some}
 use Rattle.refusal.specs.Answer.{Answer, refused, done}
 use Rattle.store.specs.Layout.{all_words, all_coords}
 use Rattle.changes.specs.ChangeSet.{ChangeSet}
@@ -34,8 +33,8 @@ held_after h (done o) = record { state = o.state; set = o.changes }
 
 -- what a row asks for, as a call: one that is no call tests 12 and 13 as every call does, and then has an answer of its own
 unfoldable pub call_of : Option Edit → State → Answer Outcome
-call_of none = call (λ m. refused no_such_call [])
-call_of (some e) = run_one e
+call_of None = call (λ m. refused no_such_call [])
+call_of (Some e) = run_one e
 
 -- the whole outcome: the answer, what the memory stands for after it, and the memory itself as it was but where the call is done
 pub record StepLeft (e : Option Edit) (old : Lent) (r : Reply) (new : Lent) : Type 0 where

@@ -1,9 +1,7 @@
 // Lists of calls in plain memory: what a row asks for, what it is answered, and what a run of them leaves.
 #![tactic(auto)]
 
-ghost use Rattle.std.specs.Prelude.{◌≡◌, ◌+◌, ◌*◌, ◌/◌, ◌≤◌, true, not, ◌&&◌, ◌||◌, eqb, leb, length, get_or};
-ghost use Rattle.std.proofs.Math.Option.{none};
-ghost use Rattle.refusal.specs.Refusal.{refusal_details};
+ghost use Rattle.std.specs.Prelude.{◌≡◌, ◌+◌, ◌*◌, ◌/◌, ◌≤◌, true, not, ◌&&◌, ◌||◌, eqb, leb, length, get_or, None};
 ghost use Rattle.rows.specs.Rows.{cut, pasted};
 ghost use Rattle.place.specs.EndNames.{side_number};
 ghost use Rattle.boundary.specs.Numbers.{flag};
@@ -13,9 +11,8 @@ ghost use Rattle.call_list.specs.Rows.{row_words, part_within, part, measure, me
 ghost use Rattle.call_list.specs.Ran.{ran, room_answer, run_answer};
 
 use changes::Tally;
-use edit::{Answered, Called};
-use place::{EndName, LaneSide, MaybeEnds};
-use placing::Checked;
+use edit::Answered;
+use place::{EndName, LaneSide, SectionNames};
 use refusal::Refusal;
 
 // The words of a row, and of an answer.
@@ -33,7 +30,7 @@ pub struct Reply {
     pub number: u64,
     pub detail: u64,
     pub second: u64,
-    pub ends: MaybeEnds,
+    pub ends: Option<SectionNames>,
 }
 
 // An answer, and the tally that is right after it.
@@ -43,103 +40,52 @@ pub struct Carried {
     pub tally: Tally,
 }
 
-// How many rows were carried out, or why none was.
-#[derive(Drop)]
-pub enum Ran {
-    Done(usize),
-    Refused(Refusal),
-}
-
 #[derive(Drop)]
 pub struct RunAnswer {
-    pub ran: Ran,
+    pub ran: Result<usize, Refusal>,
     pub tally: Tally,
 }
 
-// The first detail of a refusal, 0 where it has none.
-fn detail_of(x: Refusal) -> u64
-    ensures { result ≡ get_or (refusal_details x) 0 0 }
-{
-    match x {
-        Refusal::Unknown(kind, _) => kind,
-        Refusal::ListedTwice(d) => d,
-        Refusal::BadMeasure(d) => d,
-        Refusal::BadShape(d) => d,
-        Refusal::NoPlace(d) => d,
-        Refusal::WrongGroup(d) => d,
-        Refusal::WrongLink(d) => d,
-        Refusal::NoLanes => 0,
-        Refusal::OffTheMap => 0,
-        Refusal::Full => 0,
-        Refusal::NumbersSpent => 0,
-        Refusal::BadMap => 0,
-        Refusal::BadSet => 0,
-        Refusal::ShortBuffer => 0,
-    }
-}
-
-// The second detail: the number of an unknown record.
-fn second_of(x: Refusal) -> u64
-    ensures { result ≡ get_or (refusal_details x) 1 0 }
-{
-    match x {
-        Refusal::Unknown(_, number) => number,
-        Refusal::ListedTwice(_) => 0,
-        Refusal::BadMeasure(_) => 0,
-        Refusal::BadShape(_) => 0,
-        Refusal::NoPlace(_) => 0,
-        Refusal::WrongGroup(_) => 0,
-        Refusal::WrongLink(_) => 0,
-        Refusal::NoLanes => 0,
-        Refusal::OffTheMap => 0,
-        Refusal::Full => 0,
-        Refusal::NumbersSpent => 0,
-        Refusal::BadMap => 0,
-        Refusal::BadSet => 0,
-        Refusal::ShortBuffer => 0,
-    }
-}
-
-pub fn reply_of(c: Called) -> Reply
+pub fn reply_of(c: Result<(u64, Option<SectionNames>), Refusal>) -> Reply
     ensures { Replied c result }
 {
     match c {
-        Called::Done(n, ends) => Reply {
+        Ok((n, ends)) => Reply {
             what: 0,
             number: n,
             detail: 0,
             second: 0,
             ends,
         },
-        Called::Refused(x) => Reply {
-            what: refusal::number(x),
+        Err(x) => Reply {
+            what: x.number(),
             number: 0,
-            detail: detail_of(x),
-            second: second_of(x),
-            ends: MaybeEnds::Nothing,
+            detail: x.detail(),
+            second: x.second(),
+            ends: None,
         },
     }
 }
 
 // The answer to what is no call, by what every call tests first.
-fn no_call_reply(c: Checked) -> Reply
+fn no_call_reply(c: Result<(), Refusal>) -> Reply
     ensures { NoCallReplied c result }
 {
     match c {
-        Checked::Fine => Reply {
+        Ok(()) => Reply {
             what: NO_SUCH_CALL,
             number: 0,
             detail: 0,
             second: 0,
-            ends: MaybeEnds::Nothing,
+            ends: None,
         },
-        Checked::Refused(x) => reply_of(Called::Refused(x)),
+        Err(x) => reply_of(Err(x)),
     }
 }
 
 // What is no call: 12 and 13 as every call tests them, then an answer of its own. Everything is left as it is.
 pub fn not_called(words: &[u64], coords: &[f64], fold: &[u64], tally: Tally, set: &[u64]) -> Carried
-    ensures { StepLeft none (record { words = words.now; coords = coords.now; fold = fold.now; tally = tally; set = set.now }) result.reply (record { words = words.now; coords = coords.now; fold = fold.now; tally = result.tally; set = set.now }) }
+    ensures { StepLeft None (record { words = words.now; coords = coords.now; fold = fold.now; tally = tally; set = set.now }) result.reply (record { words = words.now; coords = coords.now; fold = fold.now; tally = result.tally; set = set.now }) }
 {
     let c = finishing::check_lent(words, coords, fold, tally, set);
     Carried {
@@ -330,7 +276,7 @@ pub fn reply_words(r: Reply) -> [u64; ANSWER]
     ensures { result ≡ reply_words r }
 {
     let ends = r.ends;
-    let MaybeEnds::At(names) = ends else {
+    let Some(names) = ends else {
         return [r.what, r.number, r.detail, r.second, 0, 0, 0, 0, 0];
     };
     let left = names.left;
@@ -352,13 +298,13 @@ pub fn put_reply(answers: &mut [u64], at: usize, r: Reply)
 }
 
 // Whether there is room for the answers of n rows: 14 otherwise.
-pub fn check_room(n: usize, answers: &[u64]) -> Ran
+pub fn check_room(n: usize, answers: &[u64]) -> Result<usize, Refusal>
     ensures { ran result ≡ room_answer n answers.now }
 {
     if answers.len() / ANSWER < n {
-        return Ran::Refused(Refusal::ShortBuffer);
+        return Err(Refusal::ShortBuffer);
     }
-    Ran::Done(n)
+    Ok(n)
 }
 
 // What a list of calls tests: 12 and 13 as a call does, then 14; and how many rows there are.
@@ -370,12 +316,12 @@ pub fn check_run(
     set: &[u64],
     calls: &[u64],
     answers: &[u64],
-) -> Ran
+) -> Result<usize, Refusal>
     ensures { ran result ≡ run_answer (length calls.now / row_words) (record { words = words.now; coords = coords.now; fold = fold.now; tally = tally; set = set.now }) answers.now }
 {
     let c = finishing::check_lent(words, coords, fold, tally, set);
     match c {
-        Checked::Refused(x) => Ran::Refused(x),
-        Checked::Fine => check_room(calls.len() / ROW, answers),
+        Err(x) => Err(x),
+        Ok(()) => check_room(calls.len() / ROW, answers),
     }
 }

@@ -2,7 +2,7 @@
 use Prim.Native.Nat.{ℕ, ◌+◌, ◌^◌}
 use mathlib.Core.Path.{◌≡◌, refl}
 use mathlib.Core.Bool.{true, false}
-use mathlib.Core.Option.{none, some}
+use Rattle.std.specs.Prelude.{None, Some}
 use mathlib.Core.List.{List, [], ◌∷◌, ◌++◌, map}
 use lib.Ieee.{Float, neg, nan}
 use Rattle.refusal.specs.Answer.{Answer, refused, done}
@@ -86,7 +86,7 @@ many_lines =
       lanes = m.lanes;
       boundaries = m.boundaries;
       stop_lines = list_to (λ i. record { num = i + 10; geometry = [] }) 63;
-      signals = list_to (λ i. record { num = i + 90; kind = 0; geometry = []; height = none; bulbs = [] }) 2;
+      signals = list_to (λ i. record { num = i + 90; kind = 0; geometry = []; height = None; bulbs = [] }) 2;
       crosswalks = [];
       rules = [];
     })
@@ -108,9 +108,9 @@ other_lines = refl
 
 -- a group that is no light and controls crosswalks: the crosswalks are looked at first
 abbrev light_for : ℕ → StopLineChoice → NewTrafficSignal
-light_for g c = record { lanes = 3 ∷ []; choice = c; points = []; housing = none; height = none; kind = Vehicle; bulbs = none; group = some g }
+light_for g c = record { lanes = 3 ∷ []; choice = c; points = []; housing = None; height = None; kind = Vehicle; bulbs = None; group = Some g }
 
-crosswalk_group : same_list (set_of (add_traffic_signal (light_for 6 Automatic) (with_more 7 (record { num = 6; body = sign 2 none none; lanes = 3 ∷ []; controlled = 9 ∷ [] } ∷ [])))) (7 ∷ 1 ∷ []) ≡ true
+crosswalk_group : same_list (set_of (add_traffic_signal (light_for 6 Automatic) (with_more 7 (record { num = 6; body = sign 2 None None; lanes = 3 ∷ []; controlled = 9 ∷ [] } ∷ [])))) (7 ∷ 1 ∷ []) ≡ true
 unfolding open_stop_line open_light neg
 crosswalk_group = refl
 
@@ -133,14 +133,14 @@ unfolding open_stop_line open_light neg
 first_lane = refl
 
 -- a sign of type 2 stays on the line; the stop sign goes
-other_sign : same_list (set_of (add_traffic_signal (vehicle_light (3 ∷ [])) (with_more 7 (rule_on 6 (sign 2 none (some 4)) ∷ []))))
+other_sign : same_list (set_of (add_traffic_signal (vehicle_light (3 ∷ [])) (with_more 7 (rule_on 6 (sign 2 None (Some 4)) ∷ []))))
     (2 ∷ 6 ∷ 7 ∷ 8 ∷ 8 ∷ 0 ∷ 1 ∷ 8 ∷ 5 ∷ 2 ∷ 3 ∷ 0 ∷ 4 ∷ 8 ∷ 5 ∷ []) ≡ true
 unfolding open_stop_line open_light neg
 other_sign = refl
 
 -- a rule that named number 7 before line 7 was drawn is lifted as on a line that stood
-named_before : same_list (set_and_rules (add_traffic_signal (record { lanes = 3 ∷ []; choice = New (AtLaneEnd f0); points = []; housing = none; height = none; kind = Vehicle; bulbs = none; group = none }) (with_more 7 (rule_on 6 (marking 7) ∷ []))))
-    ((3 ∷ 5 ∷ 7 ∷ 6 ∷ 8 ∷ 8 ∷ 9 ∷ 0 ∷ 1 ∷ 8 ∷ 6 ∷ 2 ∷ 3 ∷ 0 ∷ 4 ∷ 8 ∷ 6 ∷ []) ++ rule.write (rule_on 5 (sign 1 none (some 4))) ++ rule.write (rule_on 9 (light (8 ∷ []) (some 7)))) ≡ true
+named_before : same_list (set_and_rules (add_traffic_signal (record { lanes = 3 ∷ []; choice = New (AtLaneEnd f0); points = []; housing = None; height = None; kind = Vehicle; bulbs = None; group = None }) (with_more 7 (rule_on 6 (marking 7) ∷ []))))
+    ((3 ∷ 5 ∷ 7 ∷ 6 ∷ 8 ∷ 8 ∷ 9 ∷ 0 ∷ 1 ∷ 8 ∷ 6 ∷ 2 ∷ 3 ∷ 0 ∷ 4 ∷ 8 ∷ 6 ∷ []) ++ rule.write (rule_on 5 (sign 1 None (Some 4))) ++ rule.write (rule_on 9 (light (8 ∷ []) (Some 7)))) ≡ true
 unfolding open_stop_line open_light neg
 named_before = refl
 
@@ -186,7 +186,7 @@ bad_fold : same_list
     (sign_at_end_lem (with_fold no_changes 1 0 0)
     ++ sign_at_end_lem (with_fold (record { created = entity 5 2 ∷ []; modified = []; deleted = []; warnings = [] }) 1 0 0)
     ++ sign_at_end_lem (with_fold (record { created = []; modified = []; deleted = entity 1 3 ∷ []; warnings = [] }) 0 0 1)
-    ++ sign_at_end_lem (with_fold (record { created = []; modified = []; deleted = []; warnings = record { code = 2; about = none } ∷ [] }) 0 0 0)
+    ++ sign_at_end_lem (with_fold (record { created = []; modified = []; deleted = []; warnings = record { code = 2; about = None } ∷ [] }) 0 0 0)
     ++ sign_at_end_lem (with_fold (record { created = []; modified = []; deleted = entity 8 4 ∷ []; warnings = [] }) 0 0 1)
     ++ sign_at_end_lem (with_fold (record { created = entity 2 1 ∷ entity 1 3 ∷ []; modified = []; deleted = []; warnings = [] }) 2 0 0))
     (13 ∷ 13 ∷ 13 ∷ 13 ∷ 13 ∷ 13 ∷ []) ≡ true
@@ -207,11 +207,11 @@ bulbs n x = record {
   lanes = 3 ∷ [];
   choice = New (AtLaneEnd f0);
   points = [];
-  housing = none;
-  height = none;
+  housing = None;
+  height = None;
   kind = Vehicle;
-  bulbs = some (list_to (λ i. record { position = at3 x f0 f0; color = Red; arrow = NoArrow }) n);
-  group = none;
+  bulbs = Some (list_to (λ i. record { position = at3 x f0 f0; color = Red; arrow = NoArrow }) n);
+  group = None;
 }
 
 last_tests : same_list
@@ -238,7 +238,7 @@ abbrev ends_on : Map → List ℕ → Bytes
 ends_on m ls = ends_of (add_stop_line (record { lanes = ls; placement = AtLaneEnd f0; points = []; rule = NoRule }) (opening m))
 
 abbrev lane_between : ℕ → ℕ → ℕ → Rattle.map.specs.Record.Lane
-lane_between n l r = record { num = n; kind = 0; left = record { boundary = l; reversed = false }; right = record { boundary = r; reversed = false }; centerline = none }
+lane_between n l r = record { num = n; kind = 0; left = record { boundary = l; reversed = false }; right = record { boundary = r; reversed = false }; centerline = None }
 
 -- the map of the crossings with other lanes, and with boundary 5 at y = -6
 abbrev with_lanes : List Rattle.map.specs.Record.Lane → Map
@@ -273,10 +273,10 @@ unfolding open_stop_line neg
 ends_named = refl
 
 abbrev light_with : StopLineChoice → List Float → State → Answer Outcome
-light_with c cs = add_traffic_signal (record { lanes = 3 ∷ []; choice = c; points = cs; housing = none; height = none; kind = Vehicle; bulbs = none; group = none })
+light_with c cs = add_traffic_signal (record { lanes = 3 ∷ []; choice = c; points = cs; housing = None; height = None; kind = Vehicle; bulbs = None; group = None })
 
 abbrev none_told : Bytes
-none_told = ends_words none
+none_told = ends_words None
 
 -- given points; a light that draws, at the end and at a station; one on a line found; on a named line; a new line of given points; no line; links
 ends_told : same_list

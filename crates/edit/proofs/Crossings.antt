@@ -2,7 +2,7 @@
 use Prim.Native.Nat.{ℕ}
 use mathlib.Core.Path.{◌≡◌, refl, sym, ap₂}
 use mathlib.Core.Bool.{Bool, true, false, ◌&&◌, true≢false}
-use mathlib.Core.Option.{none}
+use Rattle.std.specs.Prelude.{None}
 use mathlib.Core.List.{List, [], ◌∷◌, ◌++◌, map}
 use lib.Dec.{eqb}
 use lib.IntN.{negsuc}
@@ -88,7 +88,7 @@ abbrev pub stop_sign_on : List ℕ → Float → NewStopLine
 stop_sign_on ls x = record { lanes = ls; placement = AtLaneEnd x; points = []; rule = StopSign }
 
 abbrev pub vehicle_light : List ℕ → NewTrafficSignal
-vehicle_light ls = record { lanes = ls; choice = Automatic; points = []; housing = none; height = none; kind = Vehicle; bulbs = none; group = none }
+vehicle_light ls = record { lanes = ls; choice = Automatic; points = []; housing = None; height = None; kind = Vehicle; bulbs = None; group = None }
 
 abbrev pub from_to : ℕ → Point3 → Point3 → List LineString
 from_to n a b = record { num = n; geometry = a ∷ b ∷ [] } ∷ []

@@ -1,7 +1,7 @@
 -- For a group with a line a new one is turned down right after the tests before the choice, and no line is the group's line by its number.
 use Prim.Native.Nat.{ℕ}
 use mathlib.Core.Path.{◌≡◌, refl, ap, ◌∙◌}
-use mathlib.Core.Option.{Option, none, some}
+use Rattle.std.specs.Prelude.{Option, None, Some}
 use mathlib.Core.List.{[], ◌∷◌}
 use borrow.Author.Tests.{eq-eqb}
 use Rattle.refusal.specs.Answer.{Answer, refused, done, ◌>>=◌}
@@ -17,12 +17,12 @@ use Rattle.edit.specs.GroupLine.{before_choice, choosing}
 
 -- ---- a new line
 
-pub new_turned_down : (a : NewTrafficSignal) (m : Map) (g : ℕ) (how : Placement) → a.choice ≡ New how → before_choice a m ≡ done (some g) → light_edit a m ≡ refused 7 (4 ∷ [])
+pub new_turned_down : (a : NewTrafficSignal) (m : Map) (g : ℕ) (how : Placement) → a.choice ≡ New how → before_choice a m ≡ done (Some g) → light_edit a m ≡ refused 7 (4 ∷ [])
 unfolding light_edit light_plan check_choice before_choice
 new_turned_down a m g how c e =
-    let p₁ = next (check_lane_list m a.lanes) _ (some g) e in
-    let p₂ = past (bad_height a.height) 4 (1 ∷ []) _ (some g) p₁.rest in
-    let p₃ = next (check_housing a.housing) _ (some g) p₂.rest in
+    let p₁ = next (check_lane_list m a.lanes) _ (Some g) e in
+    let p₂ = past (bad_height a.height) 4 (1 ∷ []) _ (Some g) p₁.rest in
+    let p₃ = next (check_housing a.housing) _ (Some g) p₂.rest in
     rw (p₁.first, p₂.test, p₃.first, p₃.rest, c)
 
 -- ---- no line
@@ -31,22 +31,22 @@ new_turned_down a m g how c e =
 module _ (c : StopLineChoice) (a : NewTrafficSignal) where
   group_apart : (d : Drawing) (n : ℕ) (o : Option Rule) → grouped d (choosing c a) n o ≡ grouped d a n o
   unfolding grouped
-  group_apart d n none = refl
-  group_apart d n (some r) = refl
+  group_apart d n None = refl
+  group_apart d n (Some r) = refl
 
   draft_apart : (m : Map) (p : Planned) → light_draft (choosing c a) m p ≡ light_draft a m p
   unfolding light_draft new_signal height_of bulbs_of
   draft_apart m p = rw (group_apart _ _ (group_rule m a.group))
 
 -- a group that is turned down is so for either choice
-module _ (a : NewTrafficSignal) (m : Map) (g : ℕ) (own : (o : Option ℕ) → group_line m a.group ≡ done o → o ≡ some g) where
+module _ (a : NewTrafficSignal) (m : Map) (g : ℕ) (own : (o : Option ℕ) → group_line m a.group ≡ done o → o ≡ Some g) where
   plan_as_named : light_plan (choosing NoLine a) m ≡ light_plan (choosing (Existing g) a) m
   unfolding light_plan check_choice plan_for anchor_for differs
   plan_as_named = go (group_line m a.group) refl
     where
-      with_line_lem : (o : Option LineString) → line_of m g ≡ o → group_line m a.group ≡ done (some g) → light_plan (choosing NoLine a) m ≡ light_plan (choosing (Existing g) a) m
-      with_line_lem none q e = rw (e, q)
-      with_line_lem (some l) q e = rw (e, q, eq-eqb g g refl)
+      with_line_lem : (o : Option LineString) → line_of m g ≡ o → group_line m a.group ≡ done (Some g) → light_plan (choosing NoLine a) m ≡ light_plan (choosing (Existing g) a) m
+      with_line_lem None q e = rw (e, q)
+      with_line_lem (Some l) q e = rw (e, q, eq-eqb g g refl)
 
       go : (x : Answer (Option ℕ)) → group_line m a.group ≡ x → light_plan (choosing NoLine a) m ≡ light_plan (choosing (Existing g) a) m
       go (refused n ds) e = rw e

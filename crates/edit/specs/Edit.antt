@@ -1,6 +1,5 @@
 -- What an edit comes to, and the call around it: the checks before all else, and those that come last.
-use Rattle.std.specs.Prelude.{ℕ, ◌^◌, true, not, ◌&&◌, List, [], leb}
-use Rattle.std.proofs.Math.Option.{Option}
+use Rattle.std.specs.Prelude.{ℕ, ◌^◌, true, not, ◌&&◌, List, [], leb, Option}
 use Rattle.refusal.specs.Answer.{Answer, done, ◌>>=◌, ◌>>◌, refuse_when}
 use Rattle.rows.specs.Lists.{every}
 use Rattle.geometry.specs.declared.Point3.{Point3}

@@ -1,6 +1,5 @@
 -- The words in which is said what a light does whose group has a line.
-use Rattle.std.specs.Prelude.{ℕ, [], ◌∷◌}
-use Rattle.std.proofs.Math.Option.{Option}
+use Rattle.std.specs.Prelude.{ℕ, [], ◌∷◌, Option}
 use Rattle.refusal.specs.Answer.{Answer, ◌>>◌, refuse_when}
 use Rattle.map.specs.Record.{Map}
 use Rattle.place.specs.Place.{check_lane_list}

@@ -1,6 +1,5 @@
 -- `add_traffic_signal`: all tests in their order (`light_plan`), and then what it does (`light_draft`).
-use Rattle.std.specs.Prelude.{ℕ, ◌≡◌, refl, Bool, false, not, ◌&&◌, cond, List, [], ◌∷◌, ◌++◌, map, eqb, length, get_or, Float}
-use Rattle.std.proofs.Math.Option.{Option, none, some}
+use Rattle.std.specs.Prelude.{ℕ, ◌≡◌, refl, Bool, false, not, ◌&&◌, cond, List, [], ◌∷◌, ◌++◌, map, eqb, length, get_or, Float, Option, None, Some}
 use Rattle.std.specs.Float.{binary64}
 use Rattle.std.specs.Float.Ieee.{lt, of_bits, to_bits, of_int, round}
 use Rattle.refusal.specs.Answer.{Answer, refused, done, ◌>>=◌, ◌>>◌, refuse_when, present}
@@ -61,8 +60,8 @@ light_line (crossing c stop_lines) = refused 7 (2 ∷ [])
 light_line (other k) = refused 7 (2 ∷ [])
 
 unfoldable pub group_line : Map → Option ℕ → Answer (Option ℕ)
-group_line m none = done none
-group_line m (some g) = do
+group_line m None = done None
+group_line m (Some g) = do
   r ← present (rule_of m g) 2 (8 ∷ g ∷ [])
   refuse_when (not (no_entries r.controlled)) 7 (1 ∷ [])
   light_line r.body
@@ -70,13 +69,13 @@ group_line m (some g) = do
 -- ---- the line
 
 unfoldable pub differs : Option ℕ → ℕ → Bool
-differs none s = false
-differs (some g) s = not (eqb g s)
+differs None s = false
+differs (Some g) s = not (eqb g s)
 
 -- a new line is turned down where the group has one
 abbrev pub check_new : Option ℕ → Answer (Unit {0})
-check_new none = done tt
-check_new (some g) = refused 7 (4 ∷ [])
+check_new None = done tt
+check_new (Some g) = refused 7 (4 ∷ [])
 
 unfoldable pub check_choice : Map → Option ℕ → StopLineChoice → Answer (Unit {0})
 check_choice m group Automatic = done tt
@@ -90,14 +89,14 @@ check_choice m group (Existing s) = do
 unfoldable pub stops_at : RuleBody → Option ℕ
 stops_at (light signals line) = line
 stops_at (sign type shape line) = line
-stops_at (marking line) = some line
-stops_at (right_of_way priority yielding stop_lines) = none
-stops_at (crossing c stop_lines) = none
-stops_at (other k) = none
+stops_at (marking line) = Some line
+stops_at (right_of_way priority yielding stop_lines) = None
+stops_at (crossing c stop_lines) = None
+stops_at (other k) = None
 
 -- the first such line among the lane's rules
 unfoldable pub existing_stop_line : Map → ℕ → Option ℕ
-existing_stop_line m n = first_of (λ r. cond (member n r.lanes) (stops_at r.body) none) m.rules
+existing_stop_line m n = first_of (λ r. cond (member n r.lanes) (stops_at r.body) None) m.rules
 
 pub data Plan : Type 0 where
   use_line : ℕ → Plan
@@ -110,13 +109,13 @@ draw_plan m lanes how cs = do
   done (draw p)
 
 unfoldable pub auto_plan : Map → List ℕ → Option ℕ → Answer Plan
-auto_plan m lanes none = draw_plan m lanes (AtLaneEnd f0) []
-auto_plan m lanes (some s) = done (use_line s)
+auto_plan m lanes None = draw_plan m lanes (AtLaneEnd f0) []
+auto_plan m lanes (Some s) = done (use_line s)
 
 -- the choice of no line is the group's, where it has one
 abbrev pub own_plan : Option ℕ → Plan
-own_plan none = use_none
-own_plan (some s) = use_line s
+own_plan None = use_none
+own_plan (Some s) = use_line s
 
 unfoldable pub plan_for : Map → List ℕ → Option ℕ → StopLineChoice → List Float → Answer Plan
 plan_for m lanes group (Existing s) cs = done (use_line s)
@@ -132,7 +131,7 @@ anchor_for m lanes (use_line s) = do
 anchor_for m lanes (draw p) = done p.points
 anchor_for m lanes use_none =
     let reference = get_or lanes 0 0 in
-    cross_section m reference (elim (lane_centerline m reference) [ none ↦ f0 | some c ↦ polyline_length c ]) lanes >>= λ x.
+    cross_section m reference (elim (lane_centerline m reference) [ None ↦ f0 | Some c ↦ polyline_length c ]) lanes >>= λ x.
     done x.points
 
 -- ---- the signal
@@ -163,8 +162,8 @@ housing_at mid dir =
     at3 (mid.x ⊕ left.x) (mid.y ⊕ left.y) z ∷ at3 (mid.x ⊖ left.x) (mid.y ⊖ left.y) z ∷ []
 
 unfoldable pub station_of : Option NearestPoint → Float
-station_of none = f0
-station_of (some n) = n.station
+station_of None = f0
+station_of (Some n) = n.station
 
 unfoldable pub synthesize_signal_geometry : Map → ℕ → Polyline → Answer Polyline
 synthesize_signal_geometry m reference anchor = do
@@ -175,10 +174,10 @@ synthesize_signal_geometry m reference anchor = do
 
 -- the points as given, or made up with a warning
 unfoldable pub housing_for : Map → ℕ → Polyline → Option (List Float) → Answer Placed
-housing_for m reference anchor (some cs) = done (record { points = polyline_of cs; warnings = []; ends = none })
-housing_for m reference anchor none = do
+housing_for m reference anchor (Some cs) = done (record { points = polyline_of cs; warnings = []; ends = None })
+housing_for m reference anchor None = do
   xs ← synthesize_signal_geometry m reference anchor
-  done (record { points = xs; warnings = warning 3 none ∷ []; ends = none })
+  done (record { points = xs; warnings = warning 3 None ∷ []; ends = None })
 
 -- green, yellow and red; a pedestrian's light has no yellow
 unfoldable pub colors : SignalKind → List BulbColor
@@ -206,9 +205,9 @@ pub record Drawing : Type 0 where
   pub warnings : List Warning
 
 unfoldable pub line_drawn : Map → Plan → Drawing
-line_drawn m (use_line s) = record { map = m; line = some s; created = []; modified = []; deleted = []; warnings = [] }
-line_drawn m use_none = record { map = m; line = none; created = []; modified = []; deleted = []; warnings = [] }
-line_drawn m (draw p) = record { map = with_line m p.points; line = some (fresh m); created = entity 5 (fresh m) ∷ []; modified = []; deleted = []; warnings = p.warnings }
+line_drawn m (use_line s) = record { map = m; line = Some s; created = []; modified = []; deleted = []; warnings = [] }
+line_drawn m use_none = record { map = m; line = None; created = []; modified = []; deleted = []; warnings = [] }
+line_drawn m (draw p) = record { map = with_line m p.points; line = Some (fresh m); created = entity 5 (fresh m) ∷ []; modified = []; deleted = []; warnings = p.warnings }
 
 unfoldable pub plan_points : Plan → Polyline
 plan_points (use_line s) = []
@@ -217,8 +216,8 @@ plan_points (draw p) = p.points
 
 -- a line that stood, and no line, have no ends to name
 unfoldable pub plan_ends : Plan → Option SectionNames
-plan_ends (use_line s) = none
-plan_ends use_none = none
+plan_ends (use_line s) = None
+plan_ends use_none = None
 plan_ends (draw p) = p.ends
 
 unfoldable pub signal_drawn : Drawing → Signal → List Warning → Drawing
@@ -246,7 +245,7 @@ unfoldable pub joined_lanes : List ℕ → List ℕ → List ℕ
 joined_lanes ls ns = ls ++ keep (λ n. not (member n ls)) ns
 
 unfoldable pub grouped : Drawing → NewTrafficSignal → ℕ → Option Rule → Drawing
-grouped d a n none =
+grouped d a n None =
     record {
       map = with_rule d.map (light (n ∷ []) d.line) a.lanes;
       line = d.line;
@@ -255,7 +254,7 @@ grouped d a n none =
       deleted = d.deleted;
       warnings = d.warnings;
     }
-grouped d a n (some r) =
+grouped d a n (Some r) =
     let r' = rule_with r (extended r.body n d.line) (joined_lanes r.lanes a.lanes) r.controlled in
     record {
       map = with_rules d.map (replaced (λ x. x.num) r' d.map.rules);
@@ -271,8 +270,8 @@ grouped d a n (some r) =
 -- a marking or a stop sign, on the line s
 unfoldable pub is_stop_at : ℕ → RuleBody → Bool
 is_stop_at s (light signals line) = false
-is_stop_at s (sign type shape none) = false
-is_stop_at s (sign type shape (some line)) = eqb type 1 && eqb line s
+is_stop_at s (sign type shape None) = false
+is_stop_at s (sign type shape (Some line)) = eqb type 1 && eqb line s
 is_stop_at s (marking line) = eqb line s
 is_stop_at s (right_of_way priority yielding stop_lines) = false
 is_stop_at s (crossing c stop_lines) = false
@@ -308,13 +307,13 @@ gone_ref r gone = entity 8 r.num ∷ []
 
 unfoldable pub lift_warning : Rule → Lift → List Warning
 lift_warning r kept = []
-lift_warning r (eased ks) = warning 4 (some (entity 8 r.num)) ∷ []
-lift_warning r gone = warning 4 (some (entity 8 r.num)) ∷ []
+lift_warning r (eased ks) = warning 4 (Some (entity 8 r.num)) ∷ []
+lift_warning r gone = warning 4 (Some (entity 8 r.num)) ∷ []
 
 -- each rule's part is worked out by itself, and the parts are joined in the table's order
 unfoldable pub lift_all : List ℕ → Drawing → Option ℕ → Drawing
-lift_all lanes d none = d
-lift_all lanes d (some s) =
+lift_all lanes d None = d
+lift_all lanes d (Some s) =
     let rs = d.map.rules in
     record {
       map = with_rules d.map (joined (λ r. lifted r (lift s lanes r)) rs);
@@ -331,20 +330,20 @@ abbrev pub positions : List Bulb → List Point3
 positions = map (λ b. b.position)
 
 unfoldable pub bad_height : Option Float → Bool
-bad_height none = false
-bad_height (some h) = not (is_finite h && lt f0 h)
+bad_height None = false
+bad_height (Some h) = not (is_finite h && lt f0 h)
 
 unfoldable pub check_housing : Option (List Float) → Answer (Unit {0})
-check_housing none = done tt
-check_housing (some cs) = check_polyline cs
+check_housing None = done tt
+check_housing (Some cs) = check_polyline cs
 
 unfoldable pub group_rule : Map → Option ℕ → Option Rule
-group_rule m none = none
-group_rule m (some g) = rule_of m g
+group_rule m None = None
+group_rule m (Some g) = rule_of m g
 
 unfoldable pub bulbs_or : Option (List SignalBulb) → List Bulb → List Bulb
-bulbs_or none bs = bs
-bulbs_or (some ns) bs = map stored_bulb ns
+bulbs_or None bs = bs
+bulbs_or (Some ns) bs = map stored_bulb ns
 
 -- where the line and the signal go
 pub record Planned : Type 0 where
@@ -371,7 +370,7 @@ unfoldable pub bulbs_of : NewTrafficSignal → Polyline → List Bulb
 bulbs_of a xs = bulbs_or a.bulbs (default_bulbs a.kind xs (height_of a))
 
 unfoldable pub new_signal : NewTrafficSignal → ℕ → Polyline → Signal
-new_signal a n xs = record { num = n; kind = signal_kind_number a.kind; geometry = xs; height = some (height_of a); bulbs = bulbs_of a xs }
+new_signal a n xs = record { num = n; kind = signal_kind_number a.kind; geometry = xs; height = Some (height_of a); bulbs = bulbs_of a xs }
 
 -- all that it does
 unfoldable pub light_draft : NewTrafficSignal → Map → Planned → Draft

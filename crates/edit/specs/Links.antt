@@ -1,6 +1,5 @@
 -- `set_regulatory_links`.
-use Rattle.std.specs.Prelude.{ℕ, Bool, true, false, not, ◌&&◌, ◌||◌, List, [], ◌∷◌, eqb, ltb, length}
-use Rattle.std.proofs.Math.Option.{Option, none, some}
+use Rattle.std.specs.Prelude.{ℕ, Bool, true, false, not, ◌&&◌, ◌||◌, List, [], ◌∷◌, eqb, ltb, length, Option, None, Some}
 use Rattle.refusal.specs.Answer.{Answer, refused, done, ◌>>=◌, ◌>>◌, refuse_when, present}
 use Rattle.rows.specs.Lists.{no_entries, twice, sorted, same_list}
 use Rattle.rows.specs.Table.{replaced}
@@ -36,8 +35,8 @@ kinds_of m (n ∷ ns) =
     done (record { vehicle = is_vehicle s.kind || k.vehicle; pedestrian = not (is_vehicle s.kind) || k.pedestrian })
 
 unfoldable pub first_entry : List ℕ → Option ℕ
-first_entry [] = none
-first_entry (x ∷ xs) = some x
+first_entry [] = None
+first_entry (x ∷ xs) = Some x
 
 -- the rule with its new lines, for links that are sorted
 unfoldable pub relinked : Map → RegulatoryLinks → RuleBody → Answer RuleBody
@@ -61,8 +60,8 @@ relinked m a (other k) = refused 8 (8 ∷ [])
 
 -- the links of a rule: an optional line is a list of none or one
 unfoldable pub to_list : Option ℕ → List ℕ
-to_list none = []
-to_list (some n) = n ∷ []
+to_list None = []
+to_list (Some n) = n ∷ []
 
 unfoldable pub stop_lines_of : RuleBody → List ℕ
 stop_lines_of (light signals line) = to_list line
@@ -91,7 +90,7 @@ links_edit a m = do
   refuse_found (unknown_in (λ l. l.num) m.stop_lines b.stop_lines) 5
   w ← relinked m b r.body
   let s = rule_with r w b.lanes b.crosswalks
-  done (record { map = with_rules m (replaced (λ x. x.num) s m.rules); id = r.num; stored = []; ends = none; changes = link_changes (same_links r s) r.num })
+  done (record { map = with_rules m (replaced (λ x. x.num) s m.rules); id = r.num; stored = []; ends = None; changes = link_changes (same_links r s) r.num })
 
 unfoldable pub set_regulatory_links : RegulatoryLinks → State → Answer Outcome
 set_regulatory_links a = call (links_edit a)

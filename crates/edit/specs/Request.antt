@@ -1,11 +1,9 @@
 -- What the arguments of `add_traffic_signal` stand for.
-use Rattle.std.specs.Prelude.{ℕ, ◌+◌, ◌/◌, cond, List, Float, length, get_or}
-use Rattle.std.proofs.Math.Option.{Option, none, some}
+use Rattle.std.specs.Prelude.{ℕ, ◌+◌, ◌/◌, cond, List, Float, length, get_or, Option, None, Some}
 use Rattle.rows.specs.Lists.{list_to}
 use Rattle.geometry.specs.Polyline.{point_in}
 use Rattle.map.specs.declared.BulbColor.TheVariants.{Red}
 use Rattle.map.specs.declared.BulbArrow.TheVariants.{NoArrow}
-use Rattle.placing.specs.Answers.{maybe_number}
 use Rattle.edit.specs.declared.Height.{Height}
 use Rattle.edit.specs.declared.Height.TheVariants as h
 use Rattle.edit.specs.declared.SignalBulb.{SignalBulb}
@@ -15,8 +13,8 @@ use Rattle.edit.specs.declared.SignalRequest.{SignalRequest}
 use Rattle.edit.specs.Light.{NewTrafficSignal}
 
 abbrev pub height_given : Height → Option Float
-height_given h.Standard = none
-height_given (h.Metres x) = some x
+height_given h.Standard = None
+height_given (h.Metres x) = Some x
 
 -- ---- given lamps: one for each point of the coordinates cs, also for a last one that lacks a coordinate
 
@@ -32,7 +30,7 @@ unfoldable pub lamp_at : List Look → List Float → ℕ → SignalBulb
 lamp_at looks cs i = record { position = point_in cs i; color = (get_or looks i plain_look).color; arrow = (get_or looks i plain_look).arrow }
 
 unfoldable pub lamps_given : Lamps → List Float → Option (List SignalBulb)
-lamps_given l cs = cond l.given (some (list_to (lamp_at l.looks cs) (lamp_count cs))) none
+lamps_given l cs = cond l.given (Some (list_to (lamp_at l.looks cs) (lamp_count cs))) None
 
 unfoldable pub new_traffic_signal : List ℕ → SignalRequest → List Float → List Float → List Float → NewTrafficSignal
 new_traffic_signal lanes q points housing lamps =
@@ -40,9 +38,9 @@ new_traffic_signal lanes q points housing lamps =
       lanes = lanes;
       choice = q.choice;
       points = points;
-      housing = cond q.housing_given (some housing) none;
+      housing = cond q.housing_given (Some housing) None;
       height = height_given q.height;
       kind = q.kind;
       bulbs = lamps_given q.lamps lamps;
-      group = maybe_number q.group;
+      group = q.group;
     }

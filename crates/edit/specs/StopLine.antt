@@ -1,6 +1,5 @@
 -- `add_stop_line`.
-use Rattle.std.specs.Prelude.{ℕ, List, [], ◌∷◌, ◌++◌, Float}
-use Rattle.std.proofs.Math.Option.{Option, none, some}
+use Rattle.std.specs.Prelude.{ℕ, List, [], ◌∷◌, ◌++◌, Float, Option, None, Some}
 use Rattle.refusal.specs.Answer.{Answer, done, ◌>>=◌, ◌>>◌}
 use Rattle.map.specs.Record.{RuleBody, sign, marking, Map}
 use Rattle.map.specs.Entity.{entity}
@@ -22,19 +21,19 @@ pub record NewStopLine : Type 0 where
 
 -- the rule that makes vehicles stop at the line n
 unfoldable pub rule_at : StopRule → ℕ → Option RuleBody
-rule_at StopSign n = some (sign 1 none (some n))
-rule_at Marking n = some (marking n)
-rule_at NoRule n = none
+rule_at StopSign n = Some (sign 1 None (Some n))
+rule_at Marking n = Some (marking n)
+rule_at NoRule n = None
 
 unfoldable pub line_draft : NewStopLine → Draft → Option RuleBody → Draft
-line_draft a d none = record {
+line_draft a d None = record {
   map = d.map;
   id = d.id;
   stored = d.stored;
   ends = d.ends;
-  changes = record { created = d.changes.created; modified = []; deleted = []; warnings = d.changes.warnings ++ (warning 2 (some (entity 5 d.id)) ∷ []) };
+  changes = record { created = d.changes.created; modified = []; deleted = []; warnings = d.changes.warnings ++ (warning 2 (Some (entity 5 d.id)) ∷ []) };
 }
-line_draft a d (some w) = record {
+line_draft a d (Some w) = record {
   map = with_rule d.map w a.lanes;
   id = d.id;
   stored = d.stored;

@@ -2,7 +2,7 @@
 #![tactic(auto)]
 
 use changes::Tally;
-use placing::MaybeNumber;
+use place::SectionNames;
 use refusal::Refusal;
 
 // The rule that makes vehicles stop at a new line.
@@ -61,19 +61,12 @@ pub struct SignalRequest {
     pub kind: map::SignalKind,
     pub lamps: Lamps,
     // the light that it joins
-    pub group: MaybeNumber,
-}
-
-// The number of the record that was made or linked and the names of a drawn line's ends, or the refusal.
-#[derive(Drop)]
-pub enum Called {
-    Done(u64, place::MaybeEnds),
-    Refused(Refusal),
+    pub group: Option<u64>,
 }
 
 // An answer, and the tally that is right after it.
 #[derive(Drop)]
 pub struct Answered {
-    pub called: Called,
+    pub called: Result<(u64, Option<SectionNames>), Refusal>,
     pub tally: Tally,
 }

@@ -1,7 +1,7 @@
 -- What the exported calls write, from what the calls leave. Assumes nothing.
 use Prim.Native.Nat.{ℕ}
 use mathlib.Core.Path.{◌≡◌, sym, ap, ◌∙◌}
-use mathlib.Core.Option.{Option}
+use Rattle.std.specs.Prelude.{Option}
 use mathlib.Core.List.{List}
 use lib.Ieee.{Float}
 use lib.ListN.{get_or}

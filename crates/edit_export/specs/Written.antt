@@ -1,6 +1,5 @@
 -- What an exported call leaves: its answer and the tally as words.
-use Rattle.std.specs.Prelude.{ℕ, ◌≡◌, false, List, eqb, get_or}
-use Rattle.std.proofs.Math.Option.{Option}
+use Rattle.std.specs.Prelude.{ℕ, ◌≡◌, false, List, eqb, get_or, Option}
 use Rattle.edit.specs.Lent.{Lent, lent_call}
 use Rattle.run.specs.Run.{Edit}
 use Rattle.call_list.specs.Reply.{reply_of}

@@ -3,8 +3,7 @@
 // The first word is the result too.
 #![tactic(auto)]
 
-ghost use Rattle.std.specs.Prelude.{◌≡◌};
-ghost use Rattle.std.proofs.Math.Option.{some};
+ghost use Rattle.std.specs.Prelude.{◌≡◌, Some};
 ghost use Rattle.call_list.specs.Reply.{reply_words};
 ghost use Rattle.call_list.specs.Rows.{line_by, light_by, links_by};
 ghost use Rattle.tally_words.specs.Words.{tally_in, tally_words};
@@ -88,7 +87,7 @@ pub extern "C" fn lane_map_set_regulatory_links(
     stop_lines: &[u64],
     answer: &mut [u64; ANSWER],
 ) -> u64
-    ensures { StepWritten (some (links_by rule lanes.now crosswalks.now stop_lines.now)) (record { words = words.old; coords = coords.old; fold = fold.old; tally = tally_in tally.old; set = set.old }) result answer.new (record { words = words.new; coords = coords.new; fold = fold.new; tally = tally_in tally.new; set = set.new }) }
+    ensures { StepWritten (Some (links_by rule lanes.now crosswalks.now stop_lines.now)) (record { words = words.old; coords = coords.old; fold = fold.old; tally = tally_in tally.old; set = set.old }) result answer.new (record { words = words.new; coords = coords.new; fold = fold.new; tally = tally_in tally.new; set = set.new }) }
 {
     let t = tally_words::tally_of(tally);
     let c = numbered::links_by(

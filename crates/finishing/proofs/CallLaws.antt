@@ -1,4 +1,5 @@
 -- From the steps of a call to its whole outcome: one law for a refusal at any step, one for a call that is carried out. Assumes nothing.
+use Rattle.std.specs.Prelude.{Option, Err, Ok, Result}
 use Prim.Native.Nat.{ℕ, ◌^◌}
 use mathlib.Core.Path.{◌≡◌, refl, sym, ap, ◌∙◌}
 use mathlib.Core.Bool.{Bool, true, false, not, ◌&&◌}
@@ -24,14 +25,12 @@ use Rattle.changes.specs.ChangeSet.{normalize, fold_step, tally_of}
 use Rattle.changes.specs.ChangeFile.{lists_ok}
 use Rattle.changes.specs.Layout.{set_words, change_set_of, lists_ok_in}
 use Rattle.changes.specs.Running.{State, fold_ok, fold_fits}
-use Rattle.edit.specs.declared.Called.{Called}
-use Rattle.edit.specs.declared.Called.TheVariants as c
 use Rattle.edit.specs.Edit.{Draft, Outcome, finish, call}
-use Rattle.place.specs.declared.MaybeEnds.{MaybeEnds}
 use Rattle.place.specs.Values.{maybe_ends}
 use Rattle.edit.specs.Lent.{Lent, state_of, lent_call, CallLeft}
 use Rattle.finishing.proofs.FreshLaws.{FoldBelow, fold_below}
 use Rattle.finishing.specs.Finish.{lent_checks, planned, settled, steps}
+use Rattle.place.specs.declared.SectionNames.{SectionNames}
 
 -- what a call that is carried out answers
 abbrev pub outcome_of : State → Draft → Outcome
@@ -153,13 +152,13 @@ module _ (edit : Map → Answer Draft) (l : Lent) where
 
   -- ---- and what it leaves: r and u are the answer and the tally of the code
 
-  pub call_refused : (x : Refusal) → steps edit l ≡ refused_as x → (f' : List ℕ) → f' ≡ l.fold → (r : Called) (u : Tally) → (r ≡ c.Refused x) × (u ≡ l.tally)
+  pub call_refused : (x : Refusal) → steps edit l ≡ refused_as x → (f' : List ℕ) → f' ≡ l.fold → (r : Result (ℕ × Option SectionNames) Refusal) (u : Tally) → (r ≡ Err x) × (u ≡ l.tally)
       → CallLeft (call edit) l r (record { words = l.words; coords = l.coords; fold = f'; tally = u; set = l.set })
   call_refused x h f' ef r u e = rw (ef, e.0, e.1) (record { answer = sym (call_is ∙ rw h); kept = λ _. refl })
 
-  pub call_done : (d : Draft) → steps edit l ≡ done d → (new : Lent) (n : ℕ) (es : MaybeEnds) → map_of new.words new.coords ≡ d.map
+  pub call_done : (d : Draft) → steps edit l ≡ done d → (new : Lent) (n : ℕ) (es : Option SectionNames) → map_of new.words new.coords ≡ d.map
       → change_set_of new.fold ≡ fold_step (change_set_of l.fold) (normalize d.changes) → new.tally ≡ tally_of (change_set_of new.fold)
-      → change_set_of new.set ≡ normalize d.changes → n ≡ d.id → maybe_ends es ≡ d.ends → CallLeft (call edit) l (c.Done n es) new
+      → change_set_of new.set ≡ normalize d.changes → n ≡ d.id → maybe_ends es ≡ d.ends → CallLeft (call edit) l (Ok (n, es)) new
   call_done d h new n es a b t s i w = record {
     answer = rw (a, t, b, s, i, w) (sym (call_is ∙ rw h));
     kept = λ q. absurd (let y : ◌≡◌ {A = ℕ} 0 1 = cc in omega arith);

@@ -2,7 +2,7 @@
 use Prim.Native.Nat.{ℕ, zero, suc, ◌+◌, ◌<◌}
 use mathlib.Core.Path.{◌≡◌, refl, sym, ap, ◌∙◌}
 use mathlib.Core.Bool.{Bool, true, false, ◌&&◌, and_assoc}
-use mathlib.Core.Option.{Option, none, some}
+use Rattle.std.specs.Prelude.{Option, None, Some}
 use mathlib.Core.List.{List, [], ◌∷◌, ◌++◌, append-nil}
 use native.Mathlib.Omega.{arith}
 use lib.Dec.{leb}
@@ -79,8 +79,8 @@ line_few xs h = list_few max_line_points point xs h
 
 if_few : (o : Option Polyline) → (option polyline).fits o ≡ true → if_there line_within o ≡ true
 unfolding if_there
-if_few none h = refl
-if_few (some xs) h = line_few xs (fits_option polyline xs h)
+if_few None h = refl
+if_few (Some xs) h = line_few xs (fits_option polyline xs h)
 
 lane_within_lem : (l : Lane) → lane.fits l ≡ true → lane_within l ≡ true
 unfolding lane via ◌⊗◌ lane_within

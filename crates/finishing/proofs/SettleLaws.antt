@@ -4,6 +4,7 @@ use mathlib.Core.Path.{◌≡◌, refl, sym, ap, ◌∙◌}
 use mathlib.Core.Bool.{Bool, true, false, not, ◌&&◌}
 use mathlib.Core.List.{List, [], ◌++◌, append-nil}
 use native.Mathlib.Omega.{arith}
+use Rattle.std.specs.Prelude.{Ok, Err}
 use lib.Dec.{leb}
 use lib.ListN.{length, get_or, drop, length-append}
 use lib.Seq.{take-length, drop-length}
@@ -19,16 +20,13 @@ use Rattle.changes.specs.ChangeSet.{ChangeSet, sort_refs, without, normalize, fo
 use Rattle.changes.specs.Layout.{set_words, count_in, list_in, change_set_of, lists_ok_in}
 use Rattle.changes.specs.Running.{fold_fits}
 use Rattle.changes.proofs.Refs.{sort_rising, length_sort, length_without}
-use Rattle.sets.specs.declared.Folded.{Folded}
-use Rattle.sets.specs.declared.Folded.TheVariants as s
 use Rattle.sets.specs.Tables.{Fits}
-use Rattle.sets.specs.Fold.{folded_as, fold_fitted, FoldsTo}
+use Rattle.sets.specs.Fold.{Folded, folded_as, fold_fitted, FoldsTo}
 use Rattle.sets.proofs.ListLaws.{without_rises}
 use Rattle.sets.proofs.SettleLaws.{length_in}
 use Rattle.sets.proofs.TableLaws.{fits_ok}
 use Rattle.normal.specs.Normal.{Normalized}
 use Rattle.normal.proofs.SortLaws.{normal_already}
-use Rattle.placing.specs.declared.Checked.TheVariants as k
 use Rattle.finishing.specs.Finish.{settled, RoomyAll, Few, is_few, FoldRoom, Tried, SettlesTable, TakenIn}
 
 -- ---- a normalized list rises and is no longer than it was
@@ -140,7 +138,7 @@ module _ (f d : List ℕ) (late : Bool) (g : List ℕ) (eg : g ≡ f) (q : Folde
   unfolding fold_fitted
   answer_is = h.fold.answer ∙ rw (eg, h.set.set)
 
-  pub settles_refused : (x : Refusal) → q ≡ s.Refused x → SettlesTable f d late (k.Refused x) d'
+  pub settles_refused : (x : Refusal) → q ≡ Err x → SettlesTable f d late (Err x) d'
   unfolding settled
   settles_refused x e = record { tried = record { answer = go fits (fold_step (change_set_of f) (normalize (change_set_of d))) (sym (ap (λ (y : Folded). folded_as y (change_set_of g')) e) ∙ answer_is) }; set = h.set }
     where
@@ -148,18 +146,18 @@ module _ (f d : List ℕ) (late : Bool) (g : List ℕ) (eg : g ≡ f) (q : Folde
       go true w z = absurd (let y : ◌≡◌ {A = ℕ} 0 1 = cc in omega arith)
       go false w z = cc
 
-  does_fit : q ≡ s.Done → fits ≡ true
+  does_fit : {v : Unit {0}} → q ≡ Ok v → fits ≡ true
   does_fit e = go fits (fold_step (change_set_of f) (normalize (change_set_of d))) (sym (ap (λ (y : Folded). folded_as y (change_set_of g')) e) ∙ answer_is)
     where
       go : (b : Bool) (w : ChangeSet) → done (change_set_of g') ≡ (refuse_when (not b) 10 [] >> done w) → b ≡ true
       go true w z = refl
       go false w z = absurd (let y : ◌≡◌ {A = ℕ} 0 1 = cc in omega arith)
 
-  pub settles_late : q ≡ s.Done → late ≡ true → SettlesTable f d late (k.Refused e.NumbersSpent) d'
+  pub settles_late : {v : Unit {0}} → q ≡ Ok v → late ≡ true → SettlesTable f d late (Err e.NumbersSpent) d'
   unfolding settled
   settles_late e t = record { tried = record { answer = rw (does_fit e, t) }; set = h.set }
 
-  pub settles_fine : q ≡ s.Done → late ≡ false → SettlesTable f d late k.Fine d'
+  pub settles_fine : {v : Unit {0}} → q ≡ Ok v → late ≡ false → SettlesTable f d late (Ok tt) d'
   unfolding settled
   settles_fine e t = record { tried = record { answer = rw (does_fit e, t) }; set = h.set }
 
@@ -174,7 +172,7 @@ unfolding fold_fitted
 taken_in f d d' n fits q f' h = record { set = n.set; fold = go q (h.answer ∙ rw (n.set, fits)) }
   where
     go : (y : Folded) → folded_as y (change_set_of f') ≡ done (fold_step (change_set_of f) (normalize (change_set_of d))) → change_set_of f' ≡ fold_step (change_set_of f) (normalize (change_set_of d))
-    go s.Done z = cc
-    go (s.Refused x) z = absurd (let y : ◌≡◌ {A = ℕ} 0 1 = cc in omega arith)
+    go (Ok v) z = cc
+    go (Err x) z = absurd (let y : ◌≡◌ {A = ℕ} 0 1 = cc in omega arith)
 
 pub ruleset settling = (late_room, created_room, modified_room, has_room)

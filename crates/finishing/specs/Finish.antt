@@ -1,5 +1,5 @@
 -- A call, step by step: what is tested of what is lent, what is planned, what the fold settles; and what the code of each step leaves.
-use Rattle.std.specs.Prelude.{ℕ, ◌^◌, ◌≤◌, ◌≡◌, Bool, true, not, ◌&&◌, List, [], eqb, leb, length}
+use Rattle.std.specs.Prelude.{ℕ, ◌^◌, ◌≤◌, ◌≡◌, Bool, true, not, ◌&&◌, List, [], eqb, leb, length, Result, Option}
 use Rattle.refusal.specs.Answer.{Answer, done, ◌>>=◌, ◌>>◌, refuse_when}
 use Rattle.rows.specs.Lists.{every}
 use Rattle.geometry.specs.Point.{point_on_map}
@@ -10,15 +10,14 @@ use Rattle.changes.specs.ChangeSet.{ChangeSet, normalize, fold_step}
 use Rattle.changes.specs.ChangeFile.{lists_ok}
 use Rattle.changes.specs.Layout.{set_words, count_in, change_set_of}
 use Rattle.changes.specs.Running.{fold_ok, fold_fits}
-use Rattle.sets.specs.declared.Folded.{Folded}
 use Rattle.sets.specs.Tables.{Roomy}
-use Rattle.sets.specs.Fold.{FoldsTo}
+use Rattle.sets.specs.Fold.{Folded, FoldsTo}
 use Rattle.normal.specs.Normal.{Normalized}
-use Rattle.placing.specs.declared.Checked.{Checked}
 use Rattle.placing.specs.Answers.{checked}
-use Rattle.edit.specs.declared.Called.{Called}
 use Rattle.edit.specs.Edit.{Draft, call}
 use Rattle.edit.specs.Lent.{Lent, state_of, CallLeft}
+use Rattle.refusal.specs.declared.Refusal.{Refusal}
+use Rattle.place.specs.declared.SectionNames.{SectionNames}
 
 -- ---- the steps
 
@@ -51,7 +50,7 @@ steps edit l = do
   done d
 
 -- what a call leaves whose draft is d, whichever edit made it
-pub record CallEnds (old : Lent) (d : Draft) (r : Called) (new : Lent) : Type 0 where
+pub record CallEnds (old : Lent) (d : Draft) (r : Result (ℕ × Option SectionNames) Refusal) (new : Lent) : Type 0 where
   pub left : (edit : Map → Answer Draft) → planned edit (map_of old.words old.coords) ≡ done d → CallLeft (call edit) old r new
 
 -- ---- what the code leaves
@@ -82,11 +81,11 @@ pub record Tried (f d : List ℕ) (q : Folded) (f' d' : List ℕ) : Type 0 where
   pub fold : FoldsTo f d' q f'
 
 -- r answers as settling c with the fold f does
-pub record Settles (f : List ℕ) (c : ChangeSet) (late : Bool) (r : Checked) : Type 0 where
+pub record Settles (f : List ℕ) (c : ChangeSet) (late : Bool) (r : Result (Unit {0}) Refusal) : Type 0 where
   pub answer : checked r ≡ settled (change_set_of f) (normalize c) late
 
 -- the same of the table d, which is left normalized
-pub record SettlesTable (f d : List ℕ) (late : Bool) (r : Checked) (d' : List ℕ) : Type 0 where
+pub record SettlesTable (f d : List ℕ) (late : Bool) (r : Result (Unit {0}) Refusal) (d' : List ℕ) : Type 0 where
   pub tried : Settles f (change_set_of d) late r
   pub set : Normalized d d'
 

@@ -12,38 +12,42 @@ ghost use Rattle.placing.specs.Answers.{checked};
 ghost use Rattle.finishing.specs.Finish.{lent_checks, RoomyAll, FoldRoom, Tried, SettlesTable, TakenIn};
 
 use changes::{Tally, layout};
-use edit::{Answered, Called};
-use placing::Checked;
+use edit::Answered;
 use refusal::Refusal;
-use sets::Folded;
 
 // So many entries are few: twice as many have room in a list.
 const FEW: u64 = 256;
 
 // A call that is refused: the tally is as it was.
 pub fn refused(r: Refusal, tally: Tally) -> Answered
-    ensures { (result.called ≡ Called.Refused r) × (result.tally ≡ tally) }
+    ensures { (result.called ≡ Err r) × (result.tally ≡ tally) }
 {
     Answered {
-        called: Called::Refused(r),
+        called: Err(r),
         tally,
     }
 }
 
 // What every call tests before all else: 12 for tables that are not a map's, then 13 for a fold that is not the map's or a set that is no table of one.
-pub fn check_lent(words: &[u64], coords: &[f64], fold: &[u64], tally: Tally, set: &[u64]) -> Checked
+pub fn check_lent(
+    words: &[u64],
+    coords: &[f64],
+    fold: &[u64],
+    tally: Tally,
+    set: &[u64],
+) -> Result<(), Refusal>
     ensures { checked result ≡ lent_checks (record { words = words.now; coords = coords.now; fold = fold.now; tally = tally; set = set.now }) }
 {
     if !validity::is_map(words, coords) {
-        return Checked::Refused(Refusal::BadMap);
+        return Err(Refusal::BadMap);
     }
     if set.len() != layout::WORDS {
-        return Checked::Refused(Refusal::BadSet);
+        return Err(Refusal::BadSet);
     }
     if !running::fold_ok(words, fold, tally) {
-        return Checked::Refused(Refusal::BadSet);
+        return Err(Refusal::BadSet);
     }
-    Checked::Fine
+    Ok(())
 }
 
 // Whether all points of a polyline that is to be stored lie on the map: it is 9 otherwise.
@@ -72,7 +76,7 @@ pub fn fold_room(fold: &[u64], late: bool) -> bool
 }
 
 // The set is normalized and taken into the fold, or the fold is as it was. Few calls come here, so the room to work in is no burden to the others.
-fn take_any(fold: &mut [u64], set: &mut [u64]) -> Folded
+fn take_any(fold: &mut [u64], set: &mut [u64]) -> Result<(), Refusal>
     requires { (lists_ok_in fold.old ≡ true) × RoomyAll set.old }
     ensures { Tried fold.old set.old result fold.new set.new }
 {
@@ -81,32 +85,32 @@ fn take_any(fold: &mut [u64], set: &mut [u64]) -> Folded
 }
 
 // What settling the draft with the fold answers, tried on a copy: 10 where a list of the fold would be too long, then 11. The draft is left normalized.
-pub fn settles(fold: &[u64], draft: &mut [u64], late: bool) -> Checked
+pub fn settles(fold: &[u64], draft: &mut [u64], late: bool) -> Result<(), Refusal>
     requires { (lists_ok_in fold.now ≡ true) × RoomyAll draft.old }
     ensures { SettlesTable fold.now draft.old late result draft.new }
 {
     let mut copy = [0u64; 3556];
     rows::put(&mut copy, 0, fold);
     let tried = take_any(&mut copy, draft);
-    if let Folded::Refused(r) = tried {
-        return Checked::Refused(r);
+    if let Err(r) = tried {
+        return Err(r);
     }
     if late {
-        return Checked::Refused(Refusal::NumbersSpent);
+        return Err(Refusal::NumbersSpent);
     }
-    Checked::Fine
+    Ok(())
 }
 
-// The set is normalized and taken into the fold, which has room for it. Most sets are normal as they are, and few entries fold in little room.
+// The set is normalized and taken into the fold, which has room for it: so no fold here is refused. Most sets are normal as they are, and few entries fold in little room.
 pub fn take_in(fold: &mut [u64], set: &mut [u64])
     requires { (lists_ok_in fold.old ≡ true) × RoomyAll set.old × (fold_fits (fold_step (change_set_of fold.old) (normalize (change_set_of set.old))) ≡ true) }
     ensures { TakenIn fold.old set.old fold.new set.new }
 {
     if sets::lists_ok(set) {
         if sets::crowd(fold, set) <= 64 {
-            sets::fold_few(fold, set);
+            let _ = sets::fold_few(fold, set);
             return;
         }
     }
-    take_any(fold, set);
+    let _ = take_any(fold, set);
 }

@@ -2,7 +2,7 @@
 use Prim.Native.Nat.{ℕ}
 use mathlib.Core.Path.{◌≡◌, refl, sym, ◌∙◌}
 use mathlib.Core.Bool.{Bool, true, false, not, ◌&&◌}
-use mathlib.Core.Option.{Option, none, some}
+use Rattle.std.specs.Prelude.{Option, None, Some}
 use mathlib.Core.List.{List, [], ◌∷◌}
 use lib.Ieee.{Float}
 use Rattle.refusal.specs.Answer.{Answer, refused, done, ◌>>=◌, ◌>>◌, refuse_when}
@@ -49,8 +49,8 @@ module _ (m : Map) where
   choice_same : (group : Option ℕ) (c : StopLineChoice) → new_or_none group c ≡ false → check_choice m group c ≡ before.check_choice m group c
   unfolding check_choice before.check_choice
   choice_same group Automatic h = refl
-  choice_same none (New how) h = refl
-  choice_same (some g) (New how) h = clash refl h
+  choice_same None (New how) h = refl
+  choice_same (Some g) (New how) h = clash refl h
   choice_same group NoLine h = refl
   choice_same group (Existing s) h = refl
 
@@ -58,8 +58,8 @@ module _ (m : Map) where
   unfolding plan_for before.plan_for
   plan_same lanes group Automatic cs h = refl
   plan_same lanes group (New how) cs h = refl
-  plan_same lanes none NoLine cs h = refl
-  plan_same lanes (some g) NoLine cs h = clash refl h
+  plan_same lanes None NoLine cs h = refl
+  plan_same lanes (Some g) NoLine cs h = clash refl h
   plan_same lanes group (Existing s) cs h = refl
 
 anew_by : (a : NewTrafficSignal) (m : Map) (g : Option ℕ) → answered_anew a m ≡ false → before_choice a m ≡ done g → new_or_none g a.choice ≡ false
@@ -86,14 +86,14 @@ and_not true = refl
 and_not false = refl
 
 module _ (a : NewTrafficSignal) (s : State) where
-  new_refused : (g : ℕ) (how : Placement) → a.choice ≡ New how → passes s ≡ true → before_choice a s.map ≡ done (some g) → add_traffic_signal a s ≡ refused 7 (4 ∷ [])
+  new_refused : (g : ℕ) (how : Placement) → a.choice ≡ New how → passes s ≡ true → before_choice a s.map ≡ done (Some g) → add_traffic_signal a s ≡ refused 7 (4 ∷ [])
   unfolding add_traffic_signal call passes
   new_refused g how c ok e = past_tests (search parts) (search parts) (search parts)
     where
       past_tests : is_map s.map ≡ true → lists_ok s.fold ≡ true → fold_ok s ≡ true → add_traffic_signal a s ≡ refused 7 (4 ∷ [])
       past_tests p q r = rw (p, q, r, new_turned_down a s.map g how c e)
 
-  none_named : (g : ℕ) → groups_line a.group s.map.rules ≡ some g → add_traffic_signal (choosing NoLine a) s ≡ add_traffic_signal (choosing (Existing g) a) s
+  none_named : (g : ℕ) → groups_line a.group s.map.rules ≡ Some g → add_traffic_signal (choosing NoLine a) s ≡ add_traffic_signal (choosing (Existing g) a) s
   unfolding add_traffic_signal
   none_named g e = same_call (light_edit (choosing NoLine a)) (light_edit (choosing (Existing g) a)) s (none_as_named a s.map g (λ o q. sym (group_line_lem s.map a.group o q) ∙ e))
 
@@ -101,7 +101,7 @@ module _ (a : NewTrafficSignal) (s : State) where
   unfolding run_one
   accepted o e = (call_law (signal a) s).accepted o e
 
-  no_line_drawn : (g n : ℕ) (o : Outcome) → groups_line a.group s.map.rules ≡ some g → add_traffic_signal a s ≡ done o → listed o.changes.created (entity 5 n) ≡ false
+  no_line_drawn : (g n : ℕ) (o : Outcome) → groups_line a.group s.map.rules ≡ Some g → add_traffic_signal a s ≡ done o → listed o.changes.created (entity 5 n) ≡ false
   unfolding has
   no_line_drawn g n o e q = (accepted o q).created (entity 5 n) ∙ rw ((accepted o q).joins g e).lines (and_not (holds (λ (l : LineString). l.num) n s.map.stop_lines))
 

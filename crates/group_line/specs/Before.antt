@@ -1,6 +1,5 @@
 -- A traffic light as it was defined before it joined its group's line; what stands twice is what looks at the choice of a line now.
-use Rattle.std.specs.Prelude.{ℕ, List, [], ◌∷◌, get_or, Float}
-use Rattle.std.proofs.Math.Option.{Option}
+use Rattle.std.specs.Prelude.{ℕ, List, [], ◌∷◌, get_or, Float, Option}
 use Rattle.refusal.specs.Answer.{Answer, done, ◌>>=◌, ◌>>◌, refuse_when, present}
 use Rattle.rows.specs.Lists.{or_else}
 use Rattle.map.specs.Record.{Map}

@@ -2,7 +2,6 @@
 use Prim.Native.Nat.{ℕ, ◌+◌, ◌≤◌, ◌<◌}
 use mathlib.Core.Path.{◌≡◌, sym, ap, ap₂, ◌∙◌}
 use mathlib.Core.Bool.{Bool, true, false, not, cond}
-use mathlib.Core.Option.{Option, none, some}
 use mathlib.Core.List.{List, [], ◌∷◌, ◌++◌, append_assoc, append-nil}
 use native.Mathlib.Numerals.{add-one}
 use native.Mathlib.Omega.{arith}
@@ -14,7 +13,7 @@ use Rattle.rows.specs.Table.{replaced, rising}
 use Rattle.rows.proofs.Indexed.{length-list_to}
 use Rattle.store.specs.Layout.{SizedWords, count_of, row_of, coords_of, all_coords}
 use Rattle.map.specs.declared.Entries.{Entries}
-use Rattle.map.specs.declared.Found.TheVariants.{At}
+use Rattle.std.specs.Prelude.{Some, Option, None}
 use Rattle.map.specs.declared.RuleHead.{RuleHead}
 use Rattle.map.specs.Record.{RuleBody, light, Rule}
 use Rattle.map.specs.Rows.{rule_with, with_rules}
@@ -24,9 +23,6 @@ use Rattle.map.specs.Updates.{with_list, with_rule_line, RulePut}
 use Rattle.map.proofs.UpdateLaws.{row_long, put_then, word_stays, list_there, with_lanes_lem, with_signals, with_line_lem}
 use Rattle.map.proofs.ReplaceLaws.{found_number, rule_replaced}
 use Rattle.place.specs.Readable.{ReadableWords}
-use Rattle.placing.specs.declared.MaybeNumber.{MaybeNumber}
-use Rattle.placing.specs.declared.MaybeNumber.TheVariants as n
-use Rattle.placing.specs.Answers.{maybe_number}
 use Rattle.edit.specs.Light.{extended, joined_lanes}
 use Rattle.grouping.specs.declared.LineWords.{LineWords}
 use Rattle.grouping.specs.Group.{JoinedRead, line_words, LineKept, joined_rule, GroupPut}
@@ -112,20 +108,20 @@ module _ (row : List ℕ) (e : Entries) (read : ListRead row 41 e) (few : get_or
 -- ---- the line
 
 module _ (h : RuleHead) where
-  pub own_line : h.has_line ≡ true → some h.line ≡ cond h.has_line (some h.line) none
+  pub own_line : h.has_line ≡ true → Some h.line ≡ cond h.has_line (Some h.line) None
   own_line t = rw t
 
-module _ (a b : MaybeNumber) where
-  pub first_some : (s : ℕ) → a ≡ n.At s → some s ≡ or_else (maybe_number a) (maybe_number b)
+module _ (a b : Option ℕ) where
+  pub first_some : (s : ℕ) → a ≡ Some s → Some s ≡ or_else a b
   first_some s q = rw q
 
-module _ (l : MaybeNumber) where
-  pub words_some : (s : ℕ) → l ≡ n.At s → some s ≡ maybe_number l
+module _ (l : Option ℕ) where
+  pub words_some : (s : ℕ) → l ≡ Some s → Some s ≡ l
   words_some s q = rw q
 
-pub line_kept : (h : RuleHead) (line own first : MaybeNumber) (w : LineWords) → maybe_number own ≡ cond h.has_line (some h.line) none
-    → maybe_number first ≡ or_else (maybe_number own) (maybe_number line) → line_words w ≡ maybe_number first → LineKept h line w
-line_kept h line own first w eo ef ew = record { answer = ew ∙ ef ∙ ap (λ (o : Option ℕ). or_else o (maybe_number line)) eo }
+pub line_kept : (h : RuleHead) (line own first : Option ℕ) (w : LineWords) → own ≡ cond h.has_line (Some h.line) None
+    → first ≡ or_else own line → line_words w ≡ first → LineKept h line w
+line_kept h line own first w eo ef ew = record { answer = ew ∙ ef ∙ ap (λ (o : Option ℕ). or_else o line) eo }
 
 -- ---- the rule put
 
@@ -133,7 +129,7 @@ pub put_sized : (ws : List ℕ) (i : ℕ) (r ws' : List ℕ) → RulePut ws i r 
 put_sized ws i r ws' p = (p.kept (replicate all_coords nan) (length-replicate all_coords nan)).sized.words
 
 module _ (ws : List ℕ) (ok : ReadableWords ws) (i : ℕ) (here : i < count_of ws 5) (kind : get_or (row_of ws 5 i) 1 0 ≡ 1) (few : get_or (row_of ws 5 i) 41 0 < 16) (h : RuleHead)
-    (read : HeadRead (row_of ws 5 i) h) (line : MaybeNumber) (w : LineWords) (ew : LineKept h line w) (x : ℕ) (ws₁ : List ℕ)
+    (read : HeadRead (row_of ws 5 i) h) (line : Option ℕ) (w : LineWords) (ew : LineKept h line w) (x : ℕ) (ws₁ : List ℕ)
     (a : RulePut ws i (with_list (row_of ws 5 i) 41 (list_at (row_of ws 5 i) 41 ++ (x ∷ []))) ws₁) where
   pub line_ready : SizedWords ws₁ × (i < count_of ws₁ 5)
   line_ready = (put_sized ws i _ ws₁ a, omega (arith, a.count))
@@ -155,17 +151,17 @@ module _ (ws : List ℕ) (ok : ReadableWords ws) (i : ℕ) (here : i < count_of 
   list₁ = ap (λ (r : List ℕ). list_at r 41) a.row ∙ list_there (row_of ws 5 i) long 41 _ (omega (arith, signals_short))
 
   own : Option ℕ
-  own = cond (flag_at (row_of ws 5 i) 3) (some (get_or (row_of ws 5 i) 4 0)) none
+  own = cond (flag_at (row_of ws 5 i) 3) (Some (get_or (row_of ws 5 i) 4 0)) None
 
   rule₁ : (c : List Float) → rule_in (row_of ws₁ 5 i) c ≡ rule_with (rule_in (row_of ws 5 i) c) (light (list_at (row_of ws 5 i) 41 ++ (x ∷ [])) own) (rule_in (row_of ws 5 i) c).lanes (rule_in (row_of ws 5 i) c).controlled
   unfolding own
   rule₁ c = ap (λ (r : List ℕ). rule_in r c) a.row ∙ with_signals (row_of ws 5 i) long c _ signals_short kind (ok.lanes i here) (ok.controlled i here)
 
-  lines : line_words w ≡ or_else own (maybe_number line)
+  lines : line_words w ≡ or_else own line
   unfolding own
   lines = ew.answer ∙ rw (read.has_line, read.line)
 
-  body : (c : List Float) → light (list_at (row_of ws 5 i) 41 ++ (x ∷ [])) (or_else own (maybe_number line)) ≡ extended (rule_in (row_of ws 5 i) c).body x (maybe_number line)
+  body : (c : List Float) → light (list_at (row_of ws 5 i) 41 ++ (x ∷ [])) (or_else own line) ≡ extended (rule_in (row_of ws 5 i) c).body x line
   unfolding rule_in extended own
   body c = rw kind
 
@@ -173,7 +169,7 @@ module _ (ws : List ℕ) (ok : ReadableWords ws) (i : ℕ) (here : i < count_of 
     pub lanes_ready : SizedWords ws₂ × (i < count_of ws₂ 5) × (7 + 1 + length lanes ≤ 92)
     lanes_ready = (put_sized ws₁ i _ ws₂ b, omega (arith, a.count, b.count), omega arith)
 
-    rule_is : (c : List Float) → rule_in (with_list (row_of ws₂ 5 i) 7 lanes) c ≡ joined_rule (rule_in (row_of ws 5 i) c) x (maybe_number line) lanes
+    rule_is : (c : List Float) → rule_in (with_list (row_of ws₂ 5 i) 7 lanes) c ≡ joined_rule (rule_in (row_of ws 5 i) c) x line lanes
     rule_is c =
         with_lanes_lem (row_of ws₂ 5 i) (row_long ws₂ lanes_ready.0 i lanes_ready.1) lanes short c
         ∙ ap (λ (r : Rule). rule_with r r.body lanes r.controlled)
@@ -192,8 +188,8 @@ module _ (ws : List ℕ) (ok : ReadableWords ws) (i : ℕ) (here : i < count_of 
         }
 
 -- what is put is what the definition replaces
-pub group_replaced : (ws : List ℕ) (cs : List Float) (g i x : ℕ) (line : MaybeNumber) (lanes ws' : List ℕ) → lookup ws 5 g ≡ At i
+pub group_replaced : (ws : List ℕ) (cs : List Float) (g i x : ℕ) (line : Option ℕ) (lanes ws' : List ℕ) → lookup ws 5 g ≡ Some i
     → rising (λ (r : Rule). r.num) 0 (map_of ws cs).next (map_of ws cs).rules ≡ true → length cs ≡ all_coords → GroupPut ws i x line lanes ws'
-    → map_of ws' cs ≡ with_rules (map_of ws cs) (replaced (λ (r : Rule). r.num) (joined_rule (rule_in (row_of ws 5 i) (coords_of cs 5 i)) x (maybe_number line) lanes) (map_of ws cs).rules)
+    → map_of ws' cs ≡ with_rules (map_of ws cs) (replaced (λ (r : Rule). r.num) (joined_rule (rule_in (row_of ws 5 i) (coords_of cs 5 i)) x line lanes) (map_of ws cs).rules)
 group_replaced ws cs g i x line lanes ws' e up l p =
     p.map cs l ∙ ap (with_rules (map_of ws cs)) (sym (rule_replaced ws cs g i e up _ (found_number ws cs g i e)))

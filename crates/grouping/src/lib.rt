@@ -1,18 +1,15 @@
 // A light that joins another: the lanes that the rule would list, and the rule put.
 #![tactic(auto)]
 
-ghost use Rattle.std.specs.Prelude.{◌≡◌, cond, [], ◌∷◌, ◌++◌, ◌≤◌, ◌<◌, length, get_or};
-ghost use Rattle.std.proofs.Math.Option.{none, some};
+ghost use Rattle.std.specs.Prelude.{◌≡◌, cond, [], ◌∷◌, ◌++◌, ◌≤◌, ◌<◌, length, get_or, None, Some};
 ghost use Rattle.rows.specs.Lists.{or_else};
 ghost use Rattle.store.specs.Layout.{SizedWords, count_of, row_of};
 ghost use Rattle.map.specs.Tables.{list_at};
 ghost use Rattle.map.specs.Updates.{RulePut, with_list};
 ghost use Rattle.place.specs.Readable.{ReadableWords};
-ghost use Rattle.placing.specs.Answers.{maybe_number};
 ghost use Rattle.grouping.specs.Group.{JoinedRead, line_words, LineKept, GroupPut};
 
 use map::{Entries, RuleHead, lookup, update};
-use placing::MaybeNumber;
 use placing::lists::member;
 
 // The words of a rule's line.
@@ -60,35 +57,35 @@ fn put_signal(words: &mut [u64], i: usize, signal: u64)
     update::put_list(words, i, 41, &signals[..e]);
 }
 
-fn own_line(h: RuleHead) -> MaybeNumber
-    ensures { maybe_number result ≡ cond h.has_line (some h.line) none }
+fn own_line(h: RuleHead) -> Option<u64>
+    ensures { result ≡ cond h.has_line (Some h.line) None }
 {
     if h.has_line {
-        return MaybeNumber::At(h.line);
+        return Some(h.line);
     }
-    MaybeNumber::Nothing
+    None
 }
 
-fn first_of(a: MaybeNumber, b: MaybeNumber) -> MaybeNumber
-    ensures { maybe_number result ≡ or_else (maybe_number a) (maybe_number b) }
+fn first_of(a: Option<u64>, b: Option<u64>) -> Option<u64>
+    ensures { result ≡ or_else a b }
 {
-    let MaybeNumber::At(s) = a else {
+    let Some(s) = a else {
         return b;
     };
-    MaybeNumber::At(s)
+    Some(s)
 }
 
-fn line_words(l: MaybeNumber) -> LineWords
-    ensures { line_words result ≡ maybe_number l }
+fn line_words(l: Option<u64>) -> LineWords
+    ensures { line_words result ≡ l }
 {
-    let MaybeNumber::At(s) = l else {
+    let Some(s) = l else {
         return LineWords { flag: 0, number: 0 };
     };
     LineWords { flag: 1, number: s }
 }
 
 // The rule's own line where it has one, else the light's.
-fn kept_line(h: RuleHead, line: MaybeNumber) -> LineWords
+fn kept_line(h: RuleHead, line: Option<u64>) -> LineWords
     ensures { LineKept h line result }
 {
     let own = own_line(h);
@@ -96,7 +93,7 @@ fn kept_line(h: RuleHead, line: MaybeNumber) -> LineWords
 }
 
 // Rule i, a light, with one more signal, these lanes, and a line where it had none.
-pub fn group_put(words: &mut [u64], i: usize, signal: u64, line: MaybeNumber, lanes: &[u64])
+pub fn group_put(words: &mut [u64], i: usize, signal: u64, line: Option<u64>, lanes: &[u64])
     requires { ReadableWords words.old × (i < count_of words.old 5) × (get_or (row_of words.old 5 i) 1 0 ≡ 1) × (get_or (row_of words.old 5 i) 41 0 < 16) × (length lanes.now ≤ 16) }
     ensures { GroupPut words.old i signal line lanes.now words.new }
 {

@@ -9,8 +9,9 @@ ghost use Rattle.links.specs.Linked.{rule_links};
 ghost use Rattle.stop_lines.specs.Stop.{new_stop_line};
 
 use changes::Tally;
-use edit::{Called, StopRule};
-use place::Placement;
+use edit::StopRule;
+use place::{Placement, SectionNames};
+use refusal::Refusal;
 
 pub fn add_stop_line(
     words: &mut [u64],
@@ -22,7 +23,7 @@ pub fn add_stop_line(
     how: Placement,
     given: &[f64],
     rule: StopRule,
-) -> Called
+) -> Result<(u64, Option<SectionNames>), Refusal>
     ensures { CallLeft (add_stop_line (new_stop_line lanes.now how given.now rule)) (record { words = words.old; coords = coords.old; fold = fold.old; tally = tally.old; set = set.old }) result (record { words = words.new; coords = coords.new; fold = fold.new; tally = tally.new; set = set.new }) }
 {
     let a = stop_lines::add_stop_line(words, coords, fold, *tally, set, lanes, how, given, rule);
@@ -40,7 +41,7 @@ pub fn set_regulatory_links(
     lanes: &[u64],
     crosswalks: &[u64],
     stop_lines: &[u64],
-) -> Called
+) -> Result<(u64, Option<SectionNames>), Refusal>
     ensures { CallLeft (set_regulatory_links (rule_links rule lanes.now crosswalks.now stop_lines.now)) (record { words = words.old; coords = coords.old; fold = fold.old; tally = tally.old; set = set.old }) result (record { words = words.new; coords = coords.new; fold = fold.new; tally = tally.new; set = set.new }) }
 {
     let a = links::set_regulatory_links(

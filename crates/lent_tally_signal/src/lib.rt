@@ -6,7 +6,9 @@ ghost use Rattle.edit.specs.Light.{add_traffic_signal};
 ghost use Rattle.edit.specs.Request.{new_traffic_signal};
 
 use changes::Tally;
-use edit::{Called, SignalRequest};
+use edit::SignalRequest;
+use place::SectionNames;
+use refusal::Refusal;
 
 pub fn add_traffic_signal(
     words: &mut [u64],
@@ -19,7 +21,7 @@ pub fn add_traffic_signal(
     points: &[f64],
     housing: &[f64],
     lamps: &[f64],
-) -> Called
+) -> Result<(u64, Option<SectionNames>), Refusal>
     ensures { CallLeft (add_traffic_signal (new_traffic_signal lanes.now q points.now housing.now lamps.now)) (record { words = words.old; coords = coords.old; fold = fold.old; tally = tally.old; set = set.old }) result (record { words = words.new; coords = coords.new; fold = fold.new; tally = tally.new; set = set.new }) }
 {
     let a = signals::add_traffic_signal(

@@ -2,7 +2,7 @@
 use Prim.Native.Nat.{ℕ, zero, suc, ◌+◌, ◌*◌, ◌≤◌, ◌<◌}
 use mathlib.Core.Path.{◌≡◌, refl, sym, ◌∙◌}
 use mathlib.Core.Bool.{Bool, true, false, cond}
-use mathlib.Core.Option.{Option, none, some}
+use Rattle.std.specs.Prelude.{Option, None, Some}
 use mathlib.Core.List.{List, [], ◌∷◌, ◌++◌, append-nil, append_assoc}
 use native.Mathlib.Nat.{add-zero, zero-add, add_assoc}
 use native.Mathlib.Numerals.{add-one}
@@ -33,7 +33,7 @@ use Rattle.lifting.specs.Lifting.{head_points, entries_of, LiftRead, lifted_rule
 
 -- ---- the points of a rule's shape
 
-shape_size : (t : ℕ) (b : Bool) (c : List Float) (n : ℕ) (line : Option ℕ) → body_points (sign t (cond b (some (line_at c 0 n)) none) line) ≡ cond b n 0
+shape_size : (t : ℕ) (b : Bool) (c : List Float) (n : ℕ) (line : Option ℕ) → body_points (sign t (cond b (Some (line_at c 0 n)) None) line) ≡ cond b n 0
 unfolding body_points size_of line_at
 shape_size t true c n line = length-list_to _ n
 shape_size t false c n line = refl
@@ -42,7 +42,7 @@ points_by_kind : (k : ℕ) (r : List ℕ) (c : List Float) → body_points (body
 unfolding body_points
 points_by_kind zero r c = refl
 points_by_kind (suc zero) r c = refl
-points_by_kind (suc (suc zero)) r c = shape_size (get_or r 2 0) (flag_at r 5) c (get_or r 6 0) (cond (flag_at r 3) (some (get_or r 4 0)) none)
+points_by_kind (suc (suc zero)) r c = shape_size (get_or r 2 0) (flag_at r 5) c (get_or r 6 0) (cond (flag_at r 3) (Some (get_or r 4 0)) None)
 points_by_kind (suc (suc (suc zero))) r c = refl
 points_by_kind (suc (suc (suc (suc zero)))) r c = refl
 points_by_kind (suc (suc (suc (suc (suc zero))))) r c = refl

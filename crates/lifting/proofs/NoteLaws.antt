@@ -97,8 +97,8 @@ pub noting_start : (ws : List ℕ) (s : ℕ) (lanes d : List ℕ) (n : ℕ) → 
 unfolding list_to joined
 noting_start ws s lanes d n ok = record { within = omega arith; room = ok.room; set = λ cs. no_notes (change_set_of d); created = refl; counts = λ l h. omega arith }
 
-pub word_asks : (ws : List ℕ) → ReadableWords ws → (i : ℕ) → i < count_of ws 5 → SizedWords ws × (5 < 6) × (i < limit_of 5) × (0 < width_of 5)
-word_asks ws ok i hi = (ok.sized, omega arith, omega (arith, ok.sized.counts 5 (omega arith)), omega (arith, rule_wide))
+pub word_asks : (ws : List ℕ) → ReadableWords ws → (i : ℕ) → i < count_of ws 5 → SizedWords ws × (i < limit_of 5) × (0 < width_of 5)
+word_asks ws ok i hi = (ok.sized, omega (arith, ok.sized.counts 5 (omega arith)), omega (arith, rule_wide))
 
 notes_joined : (c : ChangeSet) (a b : List EntityRef) (w : List Warning) (a' b' : List EntityRef) (w' : List Warning) → with_notes (with_notes c a b w) a' b' w' ≡ with_notes c (a ++ a') (b ++ b') (w ++ w')
 notes_joined c a b w a' b' w' = rw (append_assoc c.modified a a', append_assoc c.deleted b b', append_assoc c.warnings w w')

@@ -2,7 +2,7 @@
 use Prim.Native.Nat.{ℕ, zero, suc, ◌+◌, ◌≤◌, ◌<◌}
 use mathlib.Core.Path.{◌≡◌, refl, sym, ap, ◌∙◌}
 use mathlib.Core.Bool.{Bool, true, false, not, ◌&&◌, cond}
-use mathlib.Core.Option.{Option, none, some}
+use Rattle.std.specs.Prelude.{Option, None, Some}
 use mathlib.Core.List.{List, [], ◌∷◌, ◌++◌, append-nil, append_assoc}
 use native.Mathlib.Numerals.{add-one}
 use native.Mathlib.Omega.{arith}
@@ -52,7 +52,7 @@ module _ (s : ℕ) (h : RuleHead) where
     stops_none e = rw (ne_eqb h.kind 3 n3, ne_eqb h.kind 2 e)
 
 module _ (s : ℕ) where
-  sign_stops : (t : ℕ) (shape : Option Polyline) (b : Bool) (l : ℕ) → cond b (eqb t 1 && eqb l s) false ≡ is_stop_at s (sign t shape (cond b (some l) none))
+  sign_stops : (t : ℕ) (shape : Option Polyline) (b : Bool) (l : ℕ) → cond b (eqb t 1 && eqb l s) false ≡ is_stop_at s (sign t shape (cond b (Some l) None))
   unfolding is_stop_at
   sign_stops t shape true l = refl
   sign_stops t shape false l = refl
@@ -62,7 +62,7 @@ module _ (s : ℕ) where
   unfolding is_stop_at
   stops_by_kind zero r c = refl
   stops_by_kind (suc zero) r c = refl
-  stops_by_kind (suc (suc zero)) r c = sign_stops (get_or r 2 0) (cond (flag_at r 5) (some (line_at c 0 (get_or r 6 0))) none) (flag_at r 3) (get_or r 4 0)
+  stops_by_kind (suc (suc zero)) r c = sign_stops (get_or r 2 0) (cond (flag_at r 5) (Some (line_at c 0 (get_or r 6 0))) None) (flag_at r 3) (get_or r 4 0)
   stops_by_kind (suc (suc (suc zero))) r c = refl
   stops_by_kind (suc (suc (suc (suc zero)))) r c = refl
   stops_by_kind (suc (suc (suc (suc (suc zero))))) r c = refl

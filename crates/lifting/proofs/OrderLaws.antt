@@ -2,7 +2,7 @@
 use Prim.Native.Nat.{ℕ, suc, ◌≤◌}
 use mathlib.Core.Path.{◌≡◌, refl, sym, ap, ap₂, ◌∙◌}
 use mathlib.Core.Bool.{Bool, true, false, not, ◌&&◌, cond}
-use mathlib.Core.Option.{Option, none, some}
+use Rattle.std.specs.Prelude.{Option, None, Some}
 use mathlib.Core.List.{List, [], ◌∷◌, ◌++◌, append-nil}
 use native.Mathlib.Omega.{arith}
 use lib.Dec.{eqb, leb}
@@ -90,9 +90,9 @@ module _ (s : ℕ) (lanes : List ℕ) (a : Rule) (k : lift s lanes a ≡ kept) w
       ap₂ (λ (p q : List Rule). p ++ q) (one_lifted x (lift s lanes x) refl (eqb x.num a.num) refl t) (lifted_replaced rs (search parts))
       ∙ sym (replaced_joins a (lifted x (lift s lanes x)) (lifted_rules s lanes rs))
 
-  module _ {B : Type 0} (f : Rule → Lift → List B) (none : (x : Rule) → f x kept ≡ []) where
+  module _ {B : Type 0} (f : Rule → Lift → List B) (None : (x : Rule) → f x kept ≡ []) where
     one_noted : (x : Rule) (b : Bool) → (b ≡ true → lift s lanes x ≡ kept) → f (cond b a x) (lift s lanes (cond b a x)) ≡ f x (lift s lanes x)
-    one_noted x true h = rw (k, h refl, none a, none x)
+    one_noted x true h = rw (k, h refl, None a, None x)
     one_noted x false h = refl
 
     pub notes_replaced : (rs : List Rule) → every (alone s lanes a.num) rs ≡ true
@@ -112,13 +112,13 @@ module _ (s : ℕ) (lanes : List ℕ) (n : ℕ) where
       let t : alone s lanes n x ≡ true = rw (ne_eqb x.num n (λ e. let z : ⊥ = omega arith in z)) in
       and_i (alone s lanes n x) (every (alone s lanes n) rs) t (others_alone rs (search parts))
 
-  pub found_alone : (low high : ℕ) (rs : List Rule) (r : Rule) → rising (λ (x : Rule). x.num) low high rs ≡ true → find (λ (x : Rule). x.num) n rs ≡ some r → lift s lanes r ≡ kept
+  pub found_alone : (low high : ℕ) (rs : List Rule) (r : Rule) → rising (λ (x : Rule). x.num) low high rs ≡ true → find (λ (x : Rule). x.num) n rs ≡ Some r → lift s lanes r ≡ kept
       → every (alone s lanes n) rs ≡ true
   unfolding rising find every
   found_alone low high [] r u e k = refl
   found_alone low high (x ∷ rs) r u e k = go (eqb x.num n) refl e (λ q. found_alone (suc x.num) high rs r (search parts) q k)
     where
-      go : (b : Bool) → eqb x.num n ≡ b → cond b (some x) (find (λ (x : Rule). x.num) n rs) ≡ some r → (find (λ (x : Rule). x.num) n rs ≡ some r → every (alone s lanes n) rs ≡ true)
+      go : (b : Bool) → eqb x.num n ≡ b → cond b (Some x) (find (λ (x : Rule). x.num) n rs) ≡ Some r → (find (λ (x : Rule). x.num) n rs ≡ Some r → every (alone s lanes n) rs ≡ true)
           → (cond b (is_kept (lift s lanes x)) true && every (alone s lanes n) rs) ≡ true
       go true t e f =
           let q : x ≡ r = cc in

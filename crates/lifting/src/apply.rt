@@ -6,6 +6,7 @@ ghost use Rattle.lifting.specs.Applying.{LiftedAt, LiftsApplied};
 
 use crate::{Lift, lift_of};
 use map::update;
+use store::Kind;
 
 // Rule i with the lanes that are left, or taken out; the index of the rule that comes next.
 fn lift_at(words: &mut [u64], coords: &mut [f64], i: usize, line: u64, lanes: &[u64]) -> usize
@@ -36,7 +37,7 @@ pub fn apply_lifts(words: &mut [u64], coords: &mut [f64], line: u64, lanes: &[u6
     ensures { LiftsApplied words.old coords.old line lanes.now words.new coords.new }
 {
     let mut i = 0;
-    while i < store::count(words, 5) {
+    while i < store::count(words, Kind::Rule) {
         i = lift_at(words, coords, i, line, lanes);
     }
 }

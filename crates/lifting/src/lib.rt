@@ -11,6 +11,7 @@ ghost use Rattle.lifting.specs.Lifting.{head_stops, head_points, Left, LiftRead,
 
 use map::{Entries, RuleHead, lookup};
 use placing::lists::member;
+use store::Kind;
 
 // What happens to a rule.
 #[derive(Drop)]
@@ -142,7 +143,7 @@ pub fn gone(words: &[u64], line: u64, lanes: &[u64]) -> Freed
     requires { ReadableWords words.now × ShapesFew words.now }
     ensures { GoneRead words.now line lanes.now result }
 {
-    let n = store::count(words, 5);
+    let n = store::count(words, Kind::Rule);
     let mut rules = 0;
     let mut points = 0;
     let mut i = 0;

@@ -2,7 +2,7 @@
 use Prim.Native.Nat.{◌-◌, ℕ, zero, suc, ◌+◌, ◌^◌, ◌≤◌, ◌<◌, max}
 use mathlib.Core.Path.{◌≡◌, refl, ◌∙◌}
 use mathlib.Core.Bool.{Bool, true, false, not, ◌&&◌}
-use mathlib.Core.Option.{Option, none, some}
+use Rattle.std.specs.Prelude.{Option, None, Some}
 use mathlib.Core.List.{List, [], ◌∷◌, append-nil}
 use native.Mathlib.Omega.{arith}
 use borrow.Author.Tests.{le-leb, lt-leb, eqb-true, eqb-false}
@@ -23,20 +23,20 @@ use Rattle.light_draft.specs.Drafting.{one_if, late_of, LineNumbered, NumbersMad
 
 module _ (l : LineNumber) (first more : ℕ) (e : more ≡ one_if l.drawn) where
   pub new_late : 18446744073709551613 - more < first
-      → NumbersMade l first none (record { has_line = l.has_line; line = l.line; drawn = l.drawn; signal = first; rule = first; joins = false; late = true })
-  new_late h = let t : late_of l first none ≡ true = le-leb (2 ^ 64) (first + (one_if l.drawn + 2)) (omega arith) in record { answer = rw t }
+      → NumbersMade l first None (record { has_line = l.has_line; line = l.line; drawn = l.drawn; signal = first; rule = first; joins = false; late = true })
+  new_late h = let t : late_of l first None ≡ true = le-leb (2 ^ 64) (first + (one_if l.drawn + 2)) (omega arith) in record { answer = rw t }
 
   pub new_right : first ≤ 18446744073709551613 - more
-      → more ≤ 1 → NumbersMade l first none (record { has_line = l.has_line; line = l.line; drawn = l.drawn; signal = first + more; rule = first + more + 1; joins = false; late = false })
-  new_right h k = let t : late_of l first none ≡ false = lt-leb (2 ^ 64) (first + (one_if l.drawn + 2)) (omega arith) in record { answer = rw (t, e) }
+      → more ≤ 1 → NumbersMade l first None (record { has_line = l.has_line; line = l.line; drawn = l.drawn; signal = first + more; rule = first + more + 1; joins = false; late = false })
+  new_right h k = let t : late_of l first None ≡ false = lt-leb (2 ^ 64) (first + (one_if l.drawn + 2)) (omega arith) in record { answer = rw (t, e) }
 
   pub joined_late : (g : ℕ) → 18446744073709551614 - more < first
-      → NumbersMade l first (some g) (record { has_line = l.has_line; line = l.line; drawn = l.drawn; signal = first; rule = g; joins = true; late = true })
-  joined_late g h = let t : late_of l first (some g) ≡ true = le-leb (2 ^ 64) (first + (one_if l.drawn + 1)) (omega arith) in record { answer = rw t }
+      → NumbersMade l first (Some g) (record { has_line = l.has_line; line = l.line; drawn = l.drawn; signal = first; rule = g; joins = true; late = true })
+  joined_late g h = let t : late_of l first (Some g) ≡ true = le-leb (2 ^ 64) (first + (one_if l.drawn + 1)) (omega arith) in record { answer = rw t }
 
   pub joined_right : (g : ℕ) → first ≤ 18446744073709551614 - more
-      → more ≤ 1 → NumbersMade l first (some g) (record { has_line = l.has_line; line = l.line; drawn = l.drawn; signal = first + more; rule = g; joins = true; late = false })
-  joined_right g h k = let t : late_of l first (some g) ≡ false = lt-leb (2 ^ 64) (first + (one_if l.drawn + 1)) (omega arith) in record { answer = rw (t, e) }
+      → more ≤ 1 → NumbersMade l first (Some g) (record { has_line = l.has_line; line = l.line; drawn = l.drawn; signal = first + more; rule = g; joins = true; late = false })
+  joined_right g h k = let t : late_of l first (Some g) ≡ false = lt-leb (2 ^ 64) (first + (one_if l.drawn + 1)) (omega arith) in record { answer = rw (t, e) }
 
 pub one_few : (b : Bool) (n : ℕ) → n ≡ one_if b → n ≤ 1
 one_few true n e = omega arith
@@ -59,8 +59,8 @@ few_more n d d' f h k l = omega (arith, f k l, h k l)
 pub push_asks : (n : ℕ) (d : List ℕ) (l : ℕ) → Few n d → Roomy d → n < 32 → l < 2 → PushAsks d l
 push_asks n d l f r h g = record { room = r; list = g; few = λ k b. omega (arith, f k b) }
 
-pub push_room : (d : List ℕ) (l : ℕ) → PushAsks d l → Roomy d × (l < 3) × (count_in d l < 512)
-push_room d l h = let g = h.list in (h.room, omega arith, omega (arith, h.few l (omega arith)))
+pub push_room : (d : List ℕ) (l : ℕ) → PushAsks d l → Roomy d × (count_in d l < 512)
+push_room d l h = let g = h.list in (h.room, omega (arith, h.few l (omega arith)))
 
 pub warn_room : (d : List ℕ) → WarnAsks d → Roomy d × (count_in d 3 < 160)
 warn_room d h = (h.room, omega (arith, h.few 3 (omega arith)))

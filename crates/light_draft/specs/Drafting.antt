@@ -1,6 +1,5 @@
 -- A light's draft in the order of the code: its numbers, its change set, and its map, with the lifts first.
-use Rattle.std.specs.Prelude.{ℕ, zero, suc, ◌+◌, ◌^◌, ◌≤◌, ◌<◌, max, ◌≡◌, Bool, true, false, not, ◌&&◌, cond, List, [], ◌∷◌, ◌++◌, leb, Float, get_or}
-use Rattle.std.proofs.Math.Option.{Option, none, some}
+use Rattle.std.specs.Prelude.{ℕ, zero, suc, ◌+◌, ◌^◌, ◌≤◌, ◌<◌, max, ◌≡◌, Bool, true, false, not, ◌&&◌, cond, List, [], ◌∷◌, ◌++◌, leb, Float, get_or, Option, None, Some}
 use Rattle.rows.specs.Lists.{joined}
 use Rattle.rows.specs.Table.{replaced}
 use Rattle.map.specs.Record.{light, Rule, Map}
@@ -35,16 +34,16 @@ one_if b = cond b 1 0
 
 -- how many numbers are handed out
 abbrev pub spent : Bool → Option ℕ → ℕ
-spent drawn none = one_if drawn + 2
-spent drawn (some g) = one_if drawn + 1
+spent drawn None = one_if drawn + 2
+spent drawn (Some g) = one_if drawn + 1
 
 abbrev pub rule_number : ℕ → Bool → Bool → Option ℕ → ℕ
-rule_number first late drawn none = cond late first (first + one_if drawn + 1)
-rule_number first late drawn (some g) = g
+rule_number first late drawn None = cond late first (first + one_if drawn + 1)
+rule_number first late drawn (Some g) = g
 
 abbrev pub joins : Option ℕ → Bool
-joins none = false
-joins (some g) = true
+joins None = false
+joins (Some g) = true
 
 -- the numbers from the first on, or, where they are spent, the first in place of all
 abbrev pub numbers_of : LineNumber → ℕ → Bool → Option ℕ → Light
@@ -76,14 +75,14 @@ pub record LightNumbered (next : ℕ) (plan : LinePlan) (group : Option ℕ) (r 
   pub answer : r ≡ numbers_for (late_for next plan group) next plan group
 
 abbrev pub line_in : Light → Option ℕ
-line_in l = cond l.has_line (some l.line) none
+line_in l = cond l.has_line (Some l.line) None
 
 -- ---- the change set
 
 -- what is said of the rules on the line
 abbrev pub notes : {B : Type 0} → (Rule → Lift → List B) → Option ℕ → List ℕ → List Rule → List B
-notes f none lanes rs = []
-notes f (some s) lanes rs = joined (λ r. f r (lift s lanes r)) rs
+notes f None lanes rs = []
+notes f (Some s) lanes rs = joined (λ r. f r (lift s lanes r)) rs
 
 abbrev pub created : Light → List EntityRef
 created l = (cond l.drawn (entity 5 l.line ∷ []) [] ++ (entity 6 l.signal ∷ [])) ++ cond (not l.joins) (entity 8 l.rule ∷ []) []
@@ -93,7 +92,7 @@ modified l = cond l.joins (entity 8 l.rule ∷ []) []
 
 -- a line's station that was moved, and a housing that was made up
 abbrev pub warned : Light → Bool → Bool → List ℕ → List Warning
-warned l clamped made lanes = cond (l.drawn && clamped) (warning 1 (some (entity 1 (get_or lanes 0 0))) ∷ []) [] ++ cond made (warning 3 none ∷ []) []
+warned l clamped made lanes = cond (l.drawn && clamped) (warning 1 (Some (entity 1 (get_or lanes 0 0))) ∷ []) [] ++ cond made (warning 3 None ∷ []) []
 
 unfoldable pub light_set : Light → Bool → Bool → List ℕ → List Rule → ChangeSet
 light_set l clamped made lanes rs =
@@ -137,9 +136,9 @@ pub record NotedIf (ws : List ℕ) (b : Bool) (s : ℕ) (lanes d d' : List ℕ) 
   pub room : Roomy d'
   pub set : (cs : List Float) → change_set_of d'
       ≡ with_notes (change_set_of d)
-      (notes eased_ref (cond b (some s) none) lanes (map_of ws cs).rules)
-      (notes gone_ref (cond b (some s) none) lanes (map_of ws cs).rules)
-      (notes lift_warning (cond b (some s) none) lanes (map_of ws cs).rules)
+      (notes eased_ref (cond b (Some s) None) lanes (map_of ws cs).rules)
+      (notes gone_ref (cond b (Some s) None) lanes (map_of ws cs).rules)
+      (notes lift_warning (cond b (Some s) None) lanes (map_of ws cs).rules)
   pub counts : (k : ℕ) → k < 4 → count_in d' k ≤ count_in d k + 128
 
 pub record SetDrafted (ws lanes : List ℕ) (l : Light) (clamped made : Bool) (d' : List ℕ) : Type 0 where
@@ -149,8 +148,8 @@ pub record SetDrafted (ws lanes : List ℕ) (l : Light) (clamped made : Bool) (d
 -- ---- the map
 
 unfoldable pub lifted_first : Map → Option ℕ → List ℕ → Map
-lifted_first m none lanes = m
-lifted_first m (some s) lanes = with_rules m (lifted_rules s lanes m.rules)
+lifted_first m None lanes = m
+lifted_first m (Some s) lanes = with_rules m (lifted_rules s lanes m.rules)
 
 unfoldable pub with_plan : Map → Plan → Map
 with_plan m (use_line s) = m
@@ -162,8 +161,8 @@ unfoldable pub group_with : Rule → ℕ → Option ℕ → List ℕ → Rule
 group_with r n line lanes = rule_with r (extended r.body n line) (joined_lanes r.lanes lanes) r.controlled
 
 unfoldable pub with_light : Map → List ℕ → ℕ → Option ℕ → Option Rule → Map
-with_light m lanes n line none = with_rule m (light (n ∷ []) line) lanes
-with_light m lanes n line (some r) = with_rules m (replaced (λ x. x.num) (group_with r n line lanes) m.rules)
+with_light m lanes n line None = with_rule m (light (n ∷ []) line) lanes
+with_light m lanes n line (Some r) = with_rules m (replaced (λ x. x.num) (group_with r n line lanes) m.rules)
 
 -- the lifts, the line, the signal, the rule
 unfoldable pub stored_map : NewTrafficSignal → Map → Planned → Map
@@ -176,7 +175,7 @@ stored_map a m p =
 -- the group's rule, which is a light that controls no crosswalks
 pub record Joinable (m : Map) (g : ℕ) : Type 0 where
   pub rule : Rule
-  pub found : rule_of m g ≡ some rule
+  pub found : rule_of m g ≡ Some rule
   pub bare : rule.controlled ≡ []
   pub signals : List ℕ
   pub line : Option ℕ

@@ -1,20 +1,20 @@
 // A light's draft: the numbers that it hands out, and its change set.
 #![tactic(auto)]
 
-ghost use Rattle.std.specs.Prelude.{◌≡◌, true, ◌&&◌, ◌<◌, length};
-ghost use Rattle.std.proofs.Math.Option.{none, some};
+ghost use Rattle.std.specs.Prelude.{◌≡◌, true, ◌&&◌, ◌<◌, length, None, Some};
 ghost use Rattle.store.specs.Layout.{SizedWords, next_of};
-ghost use Rattle.map.specs.Entity.{entity};
+ghost use Rattle.changes.specs.Kinds.{list_number, code_number};
+ghost use Rattle.changes.specs.Listed.{ref_of};
 ghost use Rattle.changes.specs.Layout.{set_words};
 ghost use Rattle.place.specs.Readable.{ReadableWords};
-ghost use Rattle.placing.specs.Answers.{maybe_number};
 ghost use Rattle.lifting.specs.Noting.{AllFit};
 ghost use Rattle.light_draft.specs.Drafting.{one_if, LineNumbered, NumbersMade, LightNumbered, PushAsks, PushedIf, WarnAsks, WarnedIf, NotedIf, SetDrafted};
 
+use changes::lists::Entry;
+use changes::{SetList, WarningCode};
 use lifting::note::note_lifts;
 use lighting::LinePlan;
 use map::update;
-use placing::MaybeNumber;
 
 // The line of a light, which may be none, and whether it is a new one.
 #[derive(Drop)]
@@ -73,7 +73,7 @@ pub fn one_if(b: bool) -> u64
 
 // A light with a rule of its own: two numbers, and one for a new line.
 fn new_light(l: LineNumber, first: u64) -> Light
-    ensures { NumbersMade l first none result }
+    ensures { NumbersMade l first None result }
 {
     let more = one_if(l.drawn);
     if 18446744073709551613 - more < first {
@@ -100,7 +100,7 @@ fn new_light(l: LineNumber, first: u64) -> Light
 
 // A light that joins another: one number, and one for a new line.
 fn joined_light(l: LineNumber, first: u64, group: u64) -> Light
-    ensures { NumbersMade l first (some group) result }
+    ensures { NumbersMade l first (Some group) result }
 {
     let more = one_if(l.drawn);
     if 18446744073709551614 - more < first {
@@ -126,36 +126,36 @@ fn joined_light(l: LineNumber, first: u64, group: u64) -> Light
 }
 
 // The numbers of a light.
-pub fn light_of(words: &[u64], plan: LinePlan, group: MaybeNumber) -> Light
+pub fn light_of(words: &[u64], plan: LinePlan, group: Option<u64>) -> Light
     requires { SizedWords words.now }
-    ensures { LightNumbered (next_of words.now) plan (maybe_number group) result }
+    ensures { LightNumbered (next_of words.now) plan group result }
 {
     let first = update::fresh(words);
     let l = line_number(plan, first);
     match group {
-        MaybeNumber::Nothing => new_light(l, first),
-        MaybeNumber::At(g) => joined_light(l, first, g),
+        None => new_light(l, first),
+        Some(g) => joined_light(l, first, g),
     }
 }
 
-fn push_if(draft: &mut [u64], b: bool, l: usize, k: u64, x: u64)
-    requires { PushAsks draft.old l }
-    ensures { PushedIf draft.old b l (entity k x) draft.new }
+fn push_if(draft: &mut [u64], b: bool, l: SetList, e: Entry)
+    requires { PushAsks draft.old (list_number l) }
+    ensures { PushedIf draft.old b (list_number l) (ref_of e) draft.new }
 {
     if !b {
         return;
     }
-    building::push(draft, l, k, x);
+    building::push(draft, l, e);
 }
 
-fn warn_if(draft: &mut [u64], b: bool, c: u64, k: u64, x: u64)
+fn warn_if(draft: &mut [u64], b: bool, c: WarningCode, about: Entry)
     requires { WarnAsks draft.old }
-    ensures { WarnedIf draft.old b c k x draft.new }
+    ensures { WarnedIf draft.old b (code_number c) about.kind about.number draft.new }
 {
     if !b {
         return;
     }
-    building::warn(draft, c, k, x);
+    building::warn(draft, c, about);
 }
 
 fn lifts_if(words: &[u64], b: bool, line: u64, lanes: &[u64], draft: &mut [u64])
@@ -191,11 +191,33 @@ pub fn draft_set(
 {
     let new = !l.joins;
     building::clear(draft);
-    push_if(draft, l.drawn, 0, 5, l.line);
-    push_if(draft, true, 0, 6, l.signal);
-    push_if(draft, new, 0, 8, l.rule);
-    push_if(draft, l.joins, 1, 8, l.rule);
-    warn_if(draft, both(l.drawn, clamped), 1, 1, lanes[0]);
-    warn_if(draft, made, 3, 0, 0);
+    let line = Entry {
+        kind: 5,
+        number: l.line,
+    };
+    let signal = Entry {
+        kind: 6,
+        number: l.signal,
+    };
+    let rule = Entry {
+        kind: 8,
+        number: l.rule,
+    };
+    push_if(draft, l.drawn, SetList::Created, line);
+    push_if(draft, true, SetList::Created, signal);
+    push_if(draft, new, SetList::Created, rule);
+    push_if(draft, l.joins, SetList::Modified, rule);
+    let lane = Entry {
+        kind: 1,
+        number: lanes[0],
+    };
+    warn_if(
+        draft,
+        both(l.drawn, clamped),
+        WarningCode::PlacementClamped,
+        lane,
+    );
+    let nothing = Entry { kind: 0, number: 0 };
+    warn_if(draft, made, WarningCode::GeometrySynthesized, nothing);
     lifts_if(words, l.has_line, l.line, lanes, draft);
 }

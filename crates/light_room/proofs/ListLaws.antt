@@ -2,7 +2,7 @@
 use Prim.Native.Nat.{ℕ, suc, ◌+◌}
 use mathlib.Core.Path.{◌≡◌, refl, sym, ap, ◌∙◌}
 use mathlib.Core.Bool.{Bool, true, false, ◌&&◌, cond}
-use mathlib.Core.Option.{some}
+use Rattle.std.specs.Prelude.{Some}
 use mathlib.Core.List.{List, [], ◌∷◌}
 use native.Mathlib.Omega.{arith}
 use borrow.Author.Tests.{eqb-true, leb-true, ne_eqb}
@@ -33,7 +33,7 @@ module _ (a : Rule) (p : Rule → Bool) where
       go true k = t
       go false k = k
 
-  pub every_replaced : (rs : List Rule) (r : Rule) → find (λ (x : Rule). x.num) a.num rs ≡ some r → every p rs ≡ true → every p (replaced (λ (x : Rule). x.num) a rs) ≡ p a
+  pub every_replaced : (rs : List Rule) (r : Rule) → find (λ (x : Rule). x.num) a.num rs ≡ Some r → every p rs ≡ true → every p (replaced (λ (x : Rule). x.num) a rs) ≡ p a
   unfolding every replaced find
   every_replaced [] r e h = absurd (let z : ◌≡◌ {A = ℕ} 0 1 = cc in omega arith)
   every_replaced (x ∷ rs) r e h = go (eqb x.num a.num) e (λ q. every_replaced rs r q (search parts))
@@ -42,7 +42,7 @@ module _ (a : Rule) (p : Rule → Bool) where
       own true k = all_kept rs (search parts) k
       own false k = refl
 
-      go : (b : Bool) → cond b (some x) (find (λ (y : Rule). y.num) a.num rs) ≡ some r → (find (λ (y : Rule). y.num) a.num rs ≡ some r → every p (replaced (λ (y : Rule). y.num) a rs) ≡ p a)
+      go : (b : Bool) → cond b (Some x) (find (λ (y : Rule). y.num) a.num rs) ≡ Some r → (find (λ (y : Rule). y.num) a.num rs ≡ Some r → every p (replaced (λ (y : Rule). y.num) a rs) ≡ p a)
           → (p (cond b a x) && every p (replaced (λ (y : Rule). y.num) a rs)) ≡ p a
       go true q f = own (p a) refl
       go false q f = let t : p x ≡ true = search parts in rw t (f q)
@@ -54,14 +54,14 @@ replaced_after a (x ∷ rs) h =
     let g = leb-true (suc a.num) x.num (search parts) in
     rw (ne_eqb x.num a.num (λ e. let z : ⊥ = omega arith in z), replaced_after a rs (search parts))
 
-pub total_replaced : (a : Rule) (low high : ℕ) (rs : List Rule) (r : Rule) → rising (λ (x : Rule). x.num) low high rs ≡ true → find (λ (x : Rule). x.num) a.num rs ≡ some r
+pub total_replaced : (a : Rule) (low high : ℕ) (rs : List Rule) (r : Rule) → rising (λ (x : Rule). x.num) low high rs ≡ true → find (λ (x : Rule). x.num) a.num rs ≡ Some r
     → rule_points a ≡ rule_points r → total rule_points (replaced (λ (x : Rule). x.num) a rs) ≡ total rule_points rs
 unfolding total replaced find rising
 total_replaced a low high [] r up e h = refl
 total_replaced a low high (x ∷ rs) r up e h = go (eqb x.num a.num) refl e (λ q. total_replaced a (suc x.num) high rs r (search parts) q h)
   where
-    go : (b : Bool) → eqb x.num a.num ≡ b → cond b (some x) (find (λ (y : Rule). y.num) a.num rs) ≡ some r
-        → (find (λ (y : Rule). y.num) a.num rs ≡ some r → total rule_points (replaced (λ (y : Rule). y.num) a rs) ≡ total rule_points rs)
+    go : (b : Bool) → eqb x.num a.num ≡ b → cond b (Some x) (find (λ (y : Rule). y.num) a.num rs) ≡ Some r
+        → (find (λ (y : Rule). y.num) a.num rs ≡ Some r → total rule_points (replaced (λ (y : Rule). y.num) a rs) ≡ total rule_points rs)
         → rule_points (cond b a x) + total rule_points (replaced (λ (y : Rule). y.num) a rs) ≡ rule_points x + total rule_points rs
     go true t q f =
         let s : x ≡ r = cc in

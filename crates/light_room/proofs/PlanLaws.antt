@@ -2,7 +2,6 @@
 use Prim.Native.Nat.{ℕ, suc, ◌+◌, ◌≤◌, max}
 use mathlib.Core.Path.{◌≡◌, refl, sym, ap, ◌∙◌}
 use mathlib.Core.Bool.{Bool, true, false, not, ◌&&◌, cond, and_assoc}
-use mathlib.Core.Option.{Option, none, some}
 use mathlib.Core.List.{List, [], ◌++◌, map}
 use native.Mathlib.Nat.{max-eq_right}
 use native.Mathlib.Omega.{arith}
@@ -23,8 +22,8 @@ use Rattle.store.specs.Layout.{count_of, next_of, row_of, coords_of}
 use Rattle.row_tests.specs.Flat.{all_points}
 use Rattle.validity.proofs.Whole.{points_are}
 use Rattle.map.specs.declared.Entries.{Entries}
-use Rattle.map.specs.declared.Found.{Found}
-use Rattle.map.specs.declared.Found.TheVariants.{At, Nothing}
+use Rattle.map.specs.Access.{Found}
+use Rattle.std.specs.Prelude.{Some, None, Option, Err, Ok, Result}
 use Rattle.map.specs.Ceilings.{rule_points, points, within_ceilings}
 use Rattle.map.specs.MapFile.{is_map}
 use Rattle.map.specs.Record.{light, Signal, Rule, Map}
@@ -34,12 +33,9 @@ use Rattle.map.specs.Tables.{list_at, body_of, rule_in, map_of, is_map_tables}
 use Rattle.map.specs.Access.{lookup}
 use Rattle.map.proofs.ReadLaws.{rule_found, no_rule}
 use Rattle.map.proofs.SoundLaws.{sound}
-use Rattle.place.specs.declared.MaybeEnds.{MaybeEnds}
 use Rattle.place.specs.Place.{Placed}
 use Rattle.place.specs.Values.{Roomy, maybe_ends}
-use Rattle.placing.specs.declared.Checked.{Checked}
-use Rattle.placing.specs.declared.Checked.TheVariants.{Fine, Refused}
-use Rattle.placing.specs.Answers.{checked, maybe_number}
+use Rattle.placing.specs.Answers.{checked}
 use Rattle.edit.specs.Request.{new_traffic_signal}
 use Rattle.signal_row.specs.declared.Bulbs.{Bulbs}
 use Rattle.edit.specs.declared.SignalRequest.{SignalRequest}
@@ -63,6 +59,7 @@ use Rattle.light_room.specs.declared.SignalPlan.{SignalPlan}
 use Rattle.light_room.specs.Room.{lamps_on, on_map, JoinedFor, room_for, RoomTested, Fitted, PlanRefused, planned_in, signal_draft, SignalPlanned}
 use Rattle.light_room.proofs.RoomLaws as R
 use Rattle.light_room.proofs.TestLaws.{lamps_all}
+use Rattle.place.specs.declared.SectionNames.{SectionNames}
 
 pub points_count : (l : Line) → length (points_of l) ≡ l.count
 unfolding points_of
@@ -77,7 +74,7 @@ module _ (a : NewTrafficSignal) (m : Map) where
   second : max 1 (suc (fresh m)) ≡ fresh m + 1
   second = max-eq_right {n = 1} {m = suc (fresh m)} (omega arith) ∙ omega arith
 
-  pub stored_light : (plan : LinePlan) (line housing : Line) (clamped made : Bool) (es : MaybeEnds)
+  pub stored_light : (plan : LinePlan) (line housing : Line) (clamped made : Bool) (es : Option SectionNames)
       → stored_map a m (record { plan = plan_of plan (drawn_of (get_or a.lanes 0 0) line clamped es); housing = housing_of housing made })
       ≡ light_map m (numbers_for false m.next plan a.group) a.lanes (points_of line) (new_signal a (numbers_for false m.next plan a.group).signal (points_of housing)) (group_in m (numbers_for false m.next plan a.group))
   unfolding stored_map light_map line_drawn lifted_first with_plan group_rule
@@ -88,16 +85,16 @@ module _ (a : NewTrafficSignal) (m : Map) where
           let one = with_plan (lifted_first m ln a.lanes) (plan_of pl (drawn_of (get_or a.lanes 0 0) line clamped es)) in
           with_light (with_signal one (new_signal a (fresh one) (points_of housing))) a.lanes (fresh one) ln (group_rule m o))
           ≡ light_map m (numbers_for false m.next pl o) a.lanes (points_of line) (new_signal a (numbers_for false m.next pl o).signal (points_of housing)) (group_in m (numbers_for false m.next pl o))
-      go (Use s) none = rw plain
-      go (Use s) (some g) = rw plain
-      go NoLine none = rw plain
-      go NoLine (some g) = rw plain
-      go (Draw how) none = rw second
-      go (Draw how) (some g) = rw second
+      go (Use s) None = rw plain
+      go (Use s) (Some g) = rw plain
+      go NoLine None = rw plain
+      go NoLine (Some g) = rw plain
+      go (Draw how) None = rw second
+      go (Draw how) (Some g) = rw second
 
 -- ---- what is stored
 
-module _ (a : NewTrafficSignal) (m : Map) (plan : LinePlan) (line housing : Line) (clamped made : Bool) (es : MaybeEnds) (on : Bool) (eo : on ≡ every point_on_map (positions (bulbs_of a (points_of housing)))) where
+module _ (a : NewTrafficSignal) (m : Map) (plan : LinePlan) (line housing : Line) (clamped made : Bool) (es : Option SectionNames) (on : Bool) (eo : on ≡ every point_on_map (positions (bulbs_of a (points_of housing)))) where
   pub stored_is : every point_on_map (light_draft a m (record { plan = plan_of plan (drawn_of (get_or a.lanes 0 0) line clamped es); housing = housing_of housing made })).stored
       ≡ on_map (line_for plan (fresh m)).drawn (points_of line) (points_of housing) on
   unfolding light_draft on_map plan_points every
@@ -116,7 +113,7 @@ module _ (a : NewTrafficSignal) (m : Map) (plan : LinePlan) (line housing : Line
 
 -- ---- the names of the ends
 
-ends_are : (plan : LinePlan) (x : Placed) → (draws plan ≡ false → x.ends ≡ none) → x.ends ≡ plan_ends (plan_of plan x)
+ends_are : (plan : LinePlan) (x : Placed) → (draws plan ≡ false → x.ends ≡ None) → x.ends ≡ plan_ends (plan_of plan x)
 unfolding plan_ends
 ends_are (Use s) x h = h refl
 ends_are NoLine x h = h refl
@@ -125,30 +122,30 @@ ends_are (Draw how) x h = refl
 -- ---- the lists of the rule
 
 module _ (ws : List ℕ) (cs : List Float) (g : ℕ) (j : Joinable (map_of ws cs) g) where
-  its_rule : (i : ℕ) → lookup ws 5 g ≡ At i → rule_in (row_of ws 5 i) (coords_of cs 5 i) ≡ j.rule
+  its_rule : (i : ℕ) → lookup ws 5 g ≡ Some i → rule_in (row_of ws 5 i) (coords_of cs 5 i) ≡ j.rule
   its_rule i e = let a = rule_found ws cs g i e in let b = j.found in cc
 
-  its_body : (i : ℕ) → lookup ws 5 g ≡ At i → body_of (get_or (row_of ws 5 i) 1 0) (row_of ws 5 i) (coords_of cs 5 i) ≡ light j.signals j.line
+  its_body : (i : ℕ) → lookup ws 5 g ≡ Some i → body_of (get_or (row_of ws 5 i) 1 0) (row_of ws 5 i) (coords_of cs 5 i) ≡ light j.signals j.line
   its_body i e = sym (rule_body (row_of ws 5 i) (coords_of cs 5 i)) ∙ ap (λ (r : Rule). r.body) (its_rule i e) ∙ j.body
 
-  pub its_signals : (i : ℕ) → lookup ws 5 g ≡ At i → get_or (row_of ws 5 i) 41 0 ≡ length j.signals
+  pub its_signals : (i : ℕ) → lookup ws 5 g ≡ Some i → get_or (row_of ws 5 i) 41 0 ≡ length j.signals
   its_signals i e =
       body_signals (get_or (row_of ws 5 i) 1 0) (row_of ws 5 i) (coords_of cs 5 i) j.signals j.line
       (body_kind (get_or (row_of ws 5 i) 1 0) (row_of ws 5 i) (coords_of cs 5 i) j.signals j.line (its_body i e)) (its_body i e)
 
-  pub its_lanes : (i : ℕ) → lookup ws 5 g ≡ At i → list_at (row_of ws 5 i) 7 ≡ j.rule.lanes
+  pub its_lanes : (i : ℕ) → lookup ws 5 g ≡ Some i → list_at (row_of ws 5 i) 7 ≡ j.rule.lanes
   unfolding rule_in
   its_lanes i e = ap (λ (r : Rule). r.lanes) (its_rule i e)
 
   -- where the rule stands
-  pub at_index : {A : Type 0} → ((i : ℕ) → lookup ws 5 g ≡ At i → A) → A
+  pub at_index : {A : Type 0} → ((i : ℕ) → lookup ws 5 g ≡ Some i → A) → A
   at_index {A = A} f = go (lookup ws 5 g) refl
     where
       go : (o : Found) → lookup ws 5 g ≡ o → A
-      go (At i) e = f i e
-      go Nothing e = let a = no_rule ws cs g e in let b = j.found in absurd (let z : ◌≡◌ {A = ℕ} 0 1 = cc in omega arith)
+      go (Some i) e = f i e
+      go None e = let a = no_rule ws cs g e in let b = j.found in absurd (let z : ◌≡◌ {A = ℕ} 0 1 = cc in omega arith)
 
-  module _ (lanes : List ℕ) (r : Entries) (read : (i : ℕ) → lookup ws 5 g ≡ At i → JoinedRead (list_at (row_of ws 5 i) 7) lanes r) where
+  module _ (lanes : List ℕ) (r : Entries) (read : (i : ℕ) → lookup ws 5 g ≡ Some i → JoinedRead (list_at (row_of ws 5 i) 7) lanes r) where
     its_read : JoinedRead j.rule.lanes lanes r
     its_read = at_index (λ i e. rw (its_lanes i e) at (read i e))
 
@@ -165,7 +162,7 @@ module _ (ws : List ℕ) (cs : List Float) (g : ℕ) (j : Joinable (map_of ws cs
             sym (le-leb (length (joined_lanes j.rule.lanes lanes)) 16 (omega (arith, q, its_read.room, length-take r.count r.entries)))
         go false e = let k = leb-false r.count 16 e in sym (lt-leb (length (joined_lanes j.rule.lanes lanes)) 16 (its_read.full k))
 
-    pub lists_are : (n : ℕ) (b : Bool) → ((i : ℕ) → lookup ws 5 g ≡ At i → b ≡ (ltb (get_or (row_of ws 5 i) 41 0) 16 && leb r.count 16))
+    pub lists_are : (n : ℕ) (b : Bool) → ((i : ℕ) → lookup ws 5 g ≡ Some i → b ≡ (ltb (get_or (row_of ws 5 i) 41 0) 16 && leb r.count 16))
         → b ≡ (leb (length j.signals + 1) 16 && leb (length (joined_lanes j.rule.lanes lanes)) 16)
     lists_are n b h = at_index (λ i e. h i e ∙ rw (its_signals i e, joined_count, one_more (length j.signals) 16))
       where
@@ -188,7 +185,7 @@ module _ (ws : List ℕ) (cs : List Float) (ok : is_map_tables ws cs ≡ true) (
   is_map_lem : is_map (map_of ws cs) ≡ true
   is_map_lem = (sound ws cs ok).map
 
-  joinable : (g : ℕ) → a.group ≡ some g → Joinable (map_of ws cs) g
+  joinable : (g : ℕ) → a.group ≡ Some g → Joinable (map_of ws cs) g
   joinable g e = group_light a (map_of ws cs) (planned_in a.lanes p) hl g e
 
   drawn_is : p.light.drawn ≡ right.drawn
@@ -202,7 +199,7 @@ module _ (ws : List ℕ) (cs : List Float) (ok : is_map_tables ws cs ≡ true) (
   joins_is : p.light.joins ≡ joins a.group
   joins_is = ap (λ (l : Light). l.joins) hn.answer
 
-  rule_is : (g : ℕ) → a.group ≡ some g → p.light.rule ≡ g
+  rule_is : (g : ℕ) → a.group ≡ Some g → p.light.rule ≡ g
   rule_is g e = ap (λ (l : Light). l.rule) hn.answer ∙ rw e
 
   abbrev sig : Signal
@@ -213,7 +210,7 @@ module _ (ws : List ℕ) (cs : List Float) (ok : is_map_tables ws cs ≡ true) (
 
   -- what the tests say, with the lists and what goes
 
-  module _ (r : Checked) (hf : Fitted ws a.lanes p.light p.line p.housing on p.bulbs.count p.joined r) where
+  module _ (r : Result (Unit {0}) Refusal) (hf : Fitted ws a.lanes p.light p.line p.housing on p.bulbs.count p.joined r) where
     module _ (t : RoomTested ws a.lanes p.light p.line p.housing p.bulbs.count p.joined r) where
       goes_rules : length (map_of ws cs).rules ≡ length (lifted_first (map_of ws cs) (line_in right) a.lanes).rules + t.freed.rules
       goes_rules = t.goes.rules cs ∙ ap (λ (o : Option ℕ). length (lifted_first (map_of ws cs) o a.lanes).rules + t.freed.rules) line_is
@@ -244,18 +241,18 @@ module _ (ws : List ℕ) (cs : List Float) (ok : is_map_tables ws cs ≡ true) (
       within_is : (o : Option ℕ) → a.group ≡ o → within_ceilings (signal_draft a (map_of ws cs) p).map
           ≡ room_for (length (map_of ws cs).stop_lines) (length (map_of ws cs).signals) (length (map_of ws cs).rules) (points (map_of ws cs)) right.drawn p.light.joins t.freed.rules t.freed.points
           (cond right.drawn (length (points_of p.line)) 0 + length sig.geometry) (length sig.bulbs) t.lists
-      within_is none e =
+      within_is None e =
           let k : p.light.joins ≡ false = joins_is ∙ ap joins e in
           let h = R.new_rules (map_of ws cs) is_map_lem (line_in right) a.lanes right.drawn (points_of p.line) short sig small right.signal in
-          within_of none (ap (λ (b : Bool). cond b (rule_of (map_of ws cs) right.rule) none) (ap joins e))
+          within_of None (ap (λ (b : Bool). cond b (rule_of (map_of ws cs) right.rule) None) (ap joins e))
           (record { count = h.count ∙ ap (λ (b : Bool). length (lifted_first (map_of ws cs) (line_in right) a.lanes).rules + one_if (not b)) (sym k); within = h.within ∙ sym (t.fit.new k); points = h.points })
-      within_is (some g) e =
+      within_is (Some g) e =
           let k : p.light.joins ≡ true = joins_is ∙ ap joins e in
           let j = joinable g e in
           let n : p.light.rule ≡ g = rule_is g e in
           let h = R.joined_rules (map_of ws cs) is_map_lem (line_in right) a.lanes right.drawn (points_of p.line) short sig small right.signal g j in
           let q = lists_are ws cs g j a.lanes p.joined (λ i f. hj.lists k i (ap (lookup ws 5) n ∙ f)) 0 t.lists (λ i f. t.fit.group k i (ap (lookup ws 5) n ∙ f)) in
-          within_of (some j.rule) (ap (λ (b : Bool). cond b (rule_of (map_of ws cs) right.rule) none) (ap joins e) ∙ ap (rule_of (map_of ws cs)) (ap (rule_number (fresh (map_of ws cs)) false right.drawn) e) ∙ j.found)
+          within_of (Some j.rule) (ap (λ (b : Bool). cond b (rule_of (map_of ws cs) right.rule) None) (ap joins e) ∙ ap (rule_of (map_of ws cs)) (ap (rule_number (fresh (map_of ws cs)) false right.drawn) e) ∙ j.found)
           (record { count = h.count ∙ ap (λ (b : Bool). length (lifted_first (map_of ws cs) (line_in right) a.lanes).rules + one_if (not b)) (sym k); within = h.within ∙ sym q; points = h.points })
 
       lamps_count : length sig.bulbs ≡ p.bulbs.count
@@ -283,26 +280,26 @@ module _ (ws : List ℕ) (cs : List Float) (ok : is_map_tables ws cs ≡ true) (
 
     tests_are : (b : Bool) → on_map p.light.drawn (points_of p.line) (points_of p.housing) on ≡ b → planned (light_edit a) (map_of ws cs) ≡ (checked r >> done (signal_draft a (map_of ws cs) p))
     tests_are false e =
-        plan_off (light_edit a) (map_of ws cs) (signal_draft a (map_of ws cs) p) edit_done (on_is ∙ e) ∙ sym (ap (λ (x : Checked). checked x >> done (signal_draft a (map_of ws cs) p)) (hf.off e))
+        plan_off (light_edit a) (map_of ws cs) (signal_draft a (map_of ws cs) p) edit_done (on_is ∙ e) ∙ sym (ap (λ (x : Result (Unit {0}) Refusal). checked x >> done (signal_draft a (map_of ws cs) p)) (hf.off e))
     tests_are true e =
         let t = hf.on e in
         plan_tests (light_edit a) (map_of ws cs) (signal_draft a (map_of ws cs) p) edit_done true _ (on_is ∙ e) (room_answer_lem t)
         ∙ ap (λ (x : Answer (Unit {0})). x >> done (signal_draft a (map_of ws cs) p)) (sym t.answer)
 
-    pub turned_down : (x : Refusal) → r ≡ Refused x → planned (light_edit a) (map_of ws cs) ≡ refused_as x
-    turned_down x e = tests_are _ refl ∙ ap (λ (y : Checked). checked y >> done (signal_draft a (map_of ws cs) p)) e
+    pub turned_down : (x : Refusal) → r ≡ Err x → planned (light_edit a) (map_of ws cs) ≡ refused_as x
+    turned_down x e = tests_are _ refl ∙ ap (λ (y : Result (Unit {0}) Refusal). checked y >> done (signal_draft a (map_of ws cs) p)) e
 
-    pub accepted : r ≡ Fine → planned (light_edit a) (map_of ws cs) ≡ done (signal_draft a (map_of ws cs) p)
-    accepted e = tests_are _ refl ∙ ap (λ (y : Checked). checked y >> done (signal_draft a (map_of ws cs) p)) e
+    pub accepted : r ≡ (Ok tt) → planned (light_edit a) (map_of ws cs) ≡ done (signal_draft a (map_of ws cs) p)
+    accepted e = tests_are _ refl ∙ ap (λ (y : Result (Unit {0}) Refusal). checked y >> done (signal_draft a (map_of ws cs) p)) e
 
 -- ---- the code's plan
 
 -- what is fine is on the map, and was tested for room
-room_tested : (ws lanes : List ℕ) (l : Light) (line housing : Line) (lamps : Bool) (n : ℕ) (e : Entries) (r : Checked) → Fitted ws lanes l line housing lamps n e r → r ≡ Fine
-    → RoomTested ws lanes l line housing n e Fine
+room_tested : (ws lanes : List ℕ) (l : Light) (line housing : Line) (lamps : Bool) (n : ℕ) (e : Entries) (r : Result (Unit {0}) Refusal) → Fitted ws lanes l line housing lamps n e r → r ≡ (Ok tt)
+    → RoomTested ws lanes l line housing n e (Ok tt)
 room_tested ws lanes l line housing lamps n e r h f = go (on_map l.drawn (points_of line) (points_of housing) lamps) refl
   where
-    go : (t : Bool) → on_map l.drawn (points_of line) (points_of housing) lamps ≡ t → RoomTested ws lanes l line housing n e Fine
+    go : (t : Bool) → on_map l.drawn (points_of line) (points_of housing) lamps ≡ t → RoomTested ws lanes l line housing n e (Ok tt)
     go true k = rw f at (h.on k)
     go false k = let z = h.off k in absurd (let y : ◌≡◌ {A = ℕ} 0 1 = cc in omega arith)
 
@@ -322,15 +319,15 @@ module _ (ws : List ℕ) (cs : List Float) (ok : is_map_tables ws cs ≡ true) (
   planned_so : plan_answer lanes lp ≡ light_plan asked (map_of ws cs)
   planned_so = hp.read.answer ∙ plan_any lanes q points given lamps (map_of ws cs)
 
-  pub plan_lost : (x : Refusal) → lp.checked ≡ Refused x → SignalPlanned ws cs q lamps asked all
+  pub plan_lost : (x : Refusal) → lp.checked ≡ Err x → SignalPlanned ws cs q lamps asked all
   unfolding light_edit
   plan_lost x k = record {
     refused = λ y f. edit_refused (light_edit asked) (map_of ws cs) y (rw (← planned_so, f));
     ready = λ f. absurd (let z : ◌≡◌ {A = ℕ} 0 1 = cc in omega arith);
   }
 
-  module _ (k : lp.checked ≡ Fine) (hn : LightNumbered (next_of ws) lp.plan (maybe_number q.group) l) (hb : BulbsRead q (points_of lp.housing) lamps b) (hj : JoinedFor ws l.joins l.rule lanes e)
-      (on : Bool) (eo : on ≡ lamps_on q.lamps.given lamps b) (r : Checked) (hf : Fitted ws lanes l lp.line lp.housing on b.count e r) where
+  module _ (k : lp.checked ≡ (Ok tt)) (hn : LightNumbered (next_of ws) lp.plan q.group l) (hb : BulbsRead q (points_of lp.housing) lamps b) (hj : JoinedFor ws l.joins l.rule lanes e)
+      (on : Bool) (eo : on ≡ lamps_on q.lamps.given lamps b) (r : Result (Unit {0}) Refusal) (hf : Fitted ws lanes l lp.line lp.housing on b.count e r) where
     hl : light_plan asked (map_of ws cs) ≡ done (planned_in lanes all)
     hl = sym planned_so ∙ rw k
 
@@ -341,18 +338,18 @@ module _ (ws : List ℕ) (cs : List Float) (ok : is_map_tables ws cs ≡ true) (
     ho : on ≡ every point_on_map (positions (bulbs_of asked (points_of lp.housing)))
     ho = eo ∙ lamps_all q (points_of lp.housing) lamps b hb lanes points given
 
-    pub plan_full : (x : Refusal) → r ≡ Refused x → (s : SignalPlan) → PlanRefused x s → SignalPlanned ws cs q lamps asked s
+    pub plan_full : (x : Refusal) → r ≡ Err x → (s : SignalPlan) → PlanRefused x s → SignalPlanned ws cs q lamps asked s
     unfolding new_traffic_signal
     plan_full x f s hs = record {
-      refused = λ y g. let z : Refused x ≡ Refused y = sym hs.answer ∙ g in let w : x ≡ y = cc in
-          turned_down ws cs ok asked all hl hn hp.read.line hp.read.housing (hb.count lanes points given) on ho hj r hf y (f ∙ ap Refused w);
-      ready = λ g. absurd (let z : Refused x ≡ Fine = sym hs.answer ∙ g in let y : ◌≡◌ {A = ℕ} 0 1 = cc in omega arith);
+      refused = λ y g. let z : Err x ≡ Err y = sym hs.answer ∙ g in let w : x ≡ y = cc in
+          turned_down ws cs ok asked all hl hn hp.read.line hp.read.housing (hb.count lanes points given) on ho hj r hf y (f ∙ ap Err w);
+      ready = λ g. absurd (let z : Err x ≡ (Ok tt) = sym hs.answer ∙ g in let y : ◌≡◌ {A = ℕ} 0 1 = cc in omega arith);
     }
 
-    pub plan_ready : r ≡ Fine → SignalPlanned ws cs q lamps asked all
+    pub plan_ready : r ≡ (Ok tt) → SignalPlanned ws cs q lamps asked all
     unfolding new_traffic_signal
     plan_ready f = record {
-      refused = λ y g. absurd (let z : Refused y ≡ Fine = sym g ∙ k in let w : ◌≡◌ {A = ℕ} 0 1 = cc in omega arith);
+      refused = λ y g. absurd (let z : Err y ≡ (Ok tt) = sym g ∙ k in let w : ◌≡◌ {A = ℕ} 0 1 = cc in omega arith);
       ready = λ _. record {
         answer = accepted ws cs ok asked all hl hn hp.read.line hp.read.housing (hb.count lanes points given) on ho hj r hf f;
         ends = he;

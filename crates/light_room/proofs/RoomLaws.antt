@@ -2,7 +2,7 @@
 use Prim.Native.Nat.{ℕ, ◌+◌, ◌≤◌}
 use mathlib.Core.Path.{◌≡◌, refl, sym, ap, ◌∙◌}
 use mathlib.Core.Bool.{Bool, true, false, not, ◌&&◌, cond}
-use mathlib.Core.Option.{Option, none, some}
+use Rattle.std.specs.Prelude.{Option, None, Some}
 use mathlib.Core.List.{List, [], ◌∷◌, ◌++◌, append-nil}
 use native.Mathlib.Omega.{arith}
 use borrow.Author.Tests.{leb-true, le-leb}
@@ -30,8 +30,8 @@ use Rattle.light_room.proofs.ListLaws.{length-replaced, every_replaced, total_re
 
 first_within : (m : Map) (o : Option ℕ) (lanes : List ℕ) → is_map m ≡ true → every rule_within (lifted_first m o lanes).rules ≡ true
 unfolding lifted_first
-first_within m none lanes ok = rules_within m ok
-first_within m (some s) lanes ok = lifted_within s lanes m.rules (rules_within m ok)
+first_within m None lanes ok = rules_within m ok
+first_within m (Some s) lanes ok = lifted_within s lanes m.rules (rules_within m ok)
 
 -- of the seven tests of a grown map, those that are left
 left : (b1 b2 b3 b5 b6 b7 : Bool) {a1 a2 a3 a4 a5 a6 a7 : Bool} → a1 ≡ b1 → a2 ≡ b2 → a3 ≡ b3 → a4 ≡ true → a5 ≡ b5 → a6 ≡ b6 → a7 ≡ b7
@@ -74,14 +74,14 @@ module _ (m : Map) (ok : is_map m ≡ true) (line : Option ℕ) (lanes : List �
   grown g = go line drawn g
     where
       go : (o : Option ℕ) (b : Bool) (h : Option Rule) → Grown m (with_light (with_signal (cond b (with_line (lifted_first m o lanes) xs) (lifted_first m o lanes)) s) lanes n line h) (cond b (record { num = fresh m; geometry = xs } ∷ []) []) (s ∷ [])
-      go none true none = record { same_lanes = refl; same_boundaries = refl; more_lines = refl; more_signals = refl; same_crosswalks = refl }
-      go none true (some r) = record { same_lanes = refl; same_boundaries = refl; more_lines = refl; more_signals = refl; same_crosswalks = refl }
-      go none false none = record { same_lanes = refl; same_boundaries = refl; more_lines = sym (append-nil m.stop_lines); more_signals = refl; same_crosswalks = refl }
-      go none false (some r) = record { same_lanes = refl; same_boundaries = refl; more_lines = sym (append-nil m.stop_lines); more_signals = refl; same_crosswalks = refl }
-      go (some t) true none = record { same_lanes = refl; same_boundaries = refl; more_lines = refl; more_signals = refl; same_crosswalks = refl }
-      go (some t) true (some r) = record { same_lanes = refl; same_boundaries = refl; more_lines = refl; more_signals = refl; same_crosswalks = refl }
-      go (some t) false none = record { same_lanes = refl; same_boundaries = refl; more_lines = sym (append-nil m.stop_lines); more_signals = refl; same_crosswalks = refl }
-      go (some t) false (some r) = record { same_lanes = refl; same_boundaries = refl; more_lines = sym (append-nil m.stop_lines); more_signals = refl; same_crosswalks = refl }
+      go None true None = record { same_lanes = refl; same_boundaries = refl; more_lines = refl; more_signals = refl; same_crosswalks = refl }
+      go None true (Some r) = record { same_lanes = refl; same_boundaries = refl; more_lines = refl; more_signals = refl; same_crosswalks = refl }
+      go None false None = record { same_lanes = refl; same_boundaries = refl; more_lines = sym (append-nil m.stop_lines); more_signals = refl; same_crosswalks = refl }
+      go None false (Some r) = record { same_lanes = refl; same_boundaries = refl; more_lines = sym (append-nil m.stop_lines); more_signals = refl; same_crosswalks = refl }
+      go (Some t) true None = record { same_lanes = refl; same_boundaries = refl; more_lines = refl; more_signals = refl; same_crosswalks = refl }
+      go (Some t) true (Some r) = record { same_lanes = refl; same_boundaries = refl; more_lines = refl; more_signals = refl; same_crosswalks = refl }
+      go (Some t) false None = record { same_lanes = refl; same_boundaries = refl; more_lines = sym (append-nil m.stop_lines); more_signals = refl; same_crosswalks = refl }
+      go (Some t) false (Some r) = record { same_lanes = refl; same_boundaries = refl; more_lines = sym (append-nil m.stop_lines); more_signals = refl; same_crosswalks = refl }
 
   lines_count : length new_lines ≡ one_if drawn
   lines_count = go drawn
@@ -126,11 +126,11 @@ module _ (m : Map) (ok : is_map m ≡ true) (line : Option ℕ) (lanes : List �
       go false = refl
 
   -- a new rule
-  pub new_rules : Rules one (end none).rules 1 (leb (length lanes) 16)
+  pub new_rules : Rules one (end None).rules 1 (leb (length lanes) 16)
   unfolding with_light rule_within body_within rule_points body_points
   new_rules =
       let r : Rule = record { num = fresh three; body = light (n ∷ []) line; lanes = lanes; controlled = [] } in
-      let e : (end none).rules ≡ one.rules ++ (r ∷ []) = ap (λ (rs : List Rule). rs ++ (r ∷ [])) three_rules in
+      let e : (end None).rules ≡ one.rules ++ (r ∷ []) = ap (λ (rs : List Rule). rs ++ (r ∷ [])) three_rules in
       record {
         count = ap length e ∙ length_more one.rules r;
         within = ap (every rule_within) e ∙ every_more rule_within one.rules r (first_within m line lanes ok) ∙ go (leb (length lanes) 16);
@@ -146,7 +146,7 @@ module _ (m : Map) (ok : is_map m ≡ true) (line : Option ℕ) (lanes : List �
     abbrev put : Rule
     put = group_with j.rule n line lanes
 
-    found : find (λ (x : Rule). x.num) put.num one.rules ≡ some j.rule
+    found : find (λ (x : Rule). x.num) put.num one.rules ≡ Some j.rule
     unfolding group_with rule_of
     found = ap (λ (k : ℕ). find (λ (x : Rule). x.num) k one.rules) (group_number m g j) ∙ first_found m line lanes g j
 
@@ -162,10 +162,10 @@ module _ (m : Map) (ok : is_map m ≡ true) (line : Option ℕ) (lanes : List �
         go true = refl
         go false = refl
 
-    pub joined_rules : Rules one (end (some j.rule)).rules 0 (leb (length j.signals + 1) 16 && leb (length (joined_lanes j.rule.lanes lanes)) 16)
+    pub joined_rules : Rules one (end (Some j.rule)).rules 0 (leb (length j.signals + 1) 16 && leb (length (joined_lanes j.rule.lanes lanes)) 16)
     unfolding with_light
     joined_rules =
-        let e : (end (some j.rule)).rules ≡ replaced (λ (x : Rule). x.num) put one.rules = ap (replaced (λ (x : Rule). x.num) put) three_rules in
+        let e : (end (Some j.rule)).rules ≡ replaced (λ (x : Rule). x.num) put one.rules = ap (replaced (λ (x : Rule). x.num) put) three_rules in
         let up = first_rises m line lanes (rules_rise m ok) in
         record {
           count = ap length e ∙ length-replaced put one.rules ∙ omega arith;

@@ -2,7 +2,6 @@
 use Prim.Native.Nat.{ℕ, zero, suc, ◌+◌, ◌*◌, ◌/◌, ◌%◌, ◌≤◌, ◌<◌}
 use mathlib.Core.Path.{◌≡◌, refl, sym, ap, ◌∙◌}
 use mathlib.Core.Bool.{Bool, true, false, not, ◌&&◌, cond}
-use mathlib.Core.Option.{Option, none, some}
 use mathlib.Core.List.{List, [], ◌∷◌, map}
 use native.Mathlib.Omega.{arith}
 use borrow.Author.Tests.{leb-true}
@@ -21,8 +20,8 @@ use Rattle.store.specs.Layout.{SizedWords, count_of, row_of, limit_of, width_of}
 use Rattle.row_tests.specs.Flat.{all_points}
 use Rattle.validity.proofs.Whole.{points_are}
 use Rattle.map.specs.declared.Entries.{Entries}
-use Rattle.map.specs.declared.Found.{Found}
-use Rattle.map.specs.declared.Found.TheVariants.{At, Nothing}
+use Rattle.map.specs.Access.{Found}
+use Rattle.std.specs.Prelude.{Some, None, Option, Err, Ok}
 use Rattle.map.specs.Ceilings.{points}
 use Rattle.map.specs.Tables.{list_at, rule_in, map_of, is_map_tables}
 use Rattle.map.proofs.Parts.{map-parts}
@@ -34,7 +33,6 @@ use Rattle.map.proofs.UpdateLaws.{rule_wide, rule_limit}
 use Rattle.place.specs.Readable.{ReadableWords}
 use Rattle.place.specs.Values.{Roomy}
 use Rattle.place.proofs.LineLaws.{line_part_lem, part_long}
-use Rattle.placing.specs.declared.Checked.TheVariants.{Fine, Refused}
 use Rattle.edit.specs.declared.SignalBulb.{SignalBulb}
 use Rattle.edit.specs.declared.SignalRequest.{SignalRequest}
 use Rattle.edit.specs.Light.{stored_bulb, positions, bulbs_or, bulbs_of}
@@ -130,11 +128,11 @@ module _ (q : SignalRequest) (xs : Polyline) (cs : List Float) (b : Bulbs) (read
 
 -- ---- what goes
 
-pub freed_none : (ws : List ℕ) (b : Bool) (s : ℕ) (lanes : List ℕ) → b ≡ false → FreedRead ws (cond b (some s) none) lanes (record { rules = 0; points = 0 })
+pub freed_none : (ws : List ℕ) (b : Bool) (s : ℕ) (lanes : List ℕ) → b ≡ false → FreedRead ws (cond b (Some s) None) lanes (record { rules = 0; points = 0 })
 unfolding lifted_first
 freed_none ws b s lanes e = rw e (record { rules = λ cs. omega arith; points = λ cs. omega arith })
 
-pub freed_some : (ws : List ℕ) (b : Bool) (s : ℕ) (lanes : List ℕ) (f : Freed) → b ≡ true → GoneRead ws s lanes f → FreedRead ws (cond b (some s) none) lanes f
+pub freed_some : (ws : List ℕ) (b : Bool) (s : ℕ) (lanes : List ℕ) (f : Freed) → b ≡ true → GoneRead ws s lanes f → FreedRead ws (cond b (Some s) None) lanes f
 unfolding lifted_first
 freed_some ws b s lanes f e g = rw e (record { rules = g.rules; points = g.points })
 
@@ -154,10 +152,10 @@ freed_few ws o lanes f h ok few = (
 pub joined_none : (ws : List ℕ) (joins : Bool) (g : ℕ) (lanes : List ℕ) (r : Entries) → length r.entries ≡ 16 → r.count ≡ 0 → joins ≡ false → JoinedFor ws joins g lanes r
 joined_none ws joins g lanes r l z e = record { room = l; lists = λ q. no q e; alone = λ _. z; lost = λ _. z }
 
-pub joined_lost : (ws : List ℕ) (joins : Bool) (g : ℕ) (lanes : List ℕ) (r : Entries) (f : Found) → length r.entries ≡ 16 → r.count ≡ 0 → f ≡ lookup ws 5 g → f ≡ Nothing → JoinedFor ws joins g lanes r
+pub joined_lost : (ws : List ℕ) (joins : Bool) (g : ℕ) (lanes : List ℕ) (r : Entries) (f : Found) → length r.entries ≡ 16 → r.count ≡ 0 → f ≡ lookup ws 5 g → f ≡ None → JoinedFor ws joins g lanes r
 joined_lost ws joins g lanes r f l z e q = record { room = l; lists = λ _ i k. absurd (let y : ◌≡◌ {A = ℕ} 0 1 = cc in omega arith); alone = λ _. z; lost = λ _. z }
 
-pub joined_some : (ws : List ℕ) (joins : Bool) (g : ℕ) (lanes : List ℕ) (r : Entries) (f : Found) (i : ℕ) → joins ≡ true → f ≡ lookup ws 5 g → f ≡ At i → JoinedRead (list_at (row_of ws 5 i) 7) lanes r → JoinedFor ws joins g lanes r
+pub joined_some : (ws : List ℕ) (joins : Bool) (g : ℕ) (lanes : List ℕ) (r : Entries) (f : Found) (i : ℕ) → joins ≡ true → f ≡ lookup ws 5 g → f ≡ Some i → JoinedRead (list_at (row_of ws 5 i) 7) lanes r → JoinedFor ws joins g lanes r
 joined_some ws joins g lanes r f i j e q h =
     record {
       room = h.room;
@@ -166,19 +164,19 @@ joined_some ws joins g lanes r f i j e q h =
       lost = λ t. absurd (let y : ◌≡◌ {A = ℕ} 0 1 = cc in omega arith);
     }
 
-pub found_here : (ws : List ℕ) (g : ℕ) (f : Found) (i : ℕ) → f ≡ lookup ws 5 g → f ≡ At i → i < count_of ws 5
+pub found_here : (ws : List ℕ) (g : ℕ) (f : Found) (i : ℕ) → f ≡ lookup ws 5 g → f ≡ Some i → i < count_of ws 5
 found_here ws g f i e q = (found_index (λ (x : Rule). x.num) rule_in rule_number_lem ws [] 5 (omega arith) g i (sym e ∙ q)).1
 
-pub signals_asks : (ws : List ℕ) → ReadableWords ws → (g : ℕ) (f : Found) (i : ℕ) → f ≡ lookup ws 5 g → f ≡ At i → SizedWords ws × (5 < 6) × (i < limit_of 5) × (41 < width_of 5)
-signals_asks ws ok g f i e q = (ok.sized, omega arith, omega (arith, ok.sized.counts 5 (omega arith), found_here ws g f i e q), omega (arith, rule_wide))
+pub signals_asks : (ws : List ℕ) → ReadableWords ws → (g : ℕ) (f : Found) (i : ℕ) → f ≡ lookup ws 5 g → f ≡ Some i → SizedWords ws × (i < limit_of 5) × (41 < width_of 5)
+signals_asks ws ok g f i e q = (ok.sized, omega (arith, ok.sized.counts 5 (omega arith), found_here ws g f i e q), omega (arith, rule_wide))
 
 pub lists_new : (ws : List ℕ) (joins : Bool) (g lanes : ℕ) (joined : Entries) → joins ≡ false → ListsFit ws joins g lanes joined (leb lanes 16)
 lists_new ws joins g lanes joined e = record { new = λ _. refl; group = λ q. no q e; lost = λ q. no q e }
 
-pub lists_lost : (ws : List ℕ) (joins : Bool) (g lanes : ℕ) (joined : Entries) (f : Found) → joins ≡ true → f ≡ lookup ws 5 g → f ≡ Nothing → ListsFit ws joins g lanes joined false
+pub lists_lost : (ws : List ℕ) (joins : Bool) (g lanes : ℕ) (joined : Entries) (f : Found) → joins ≡ true → f ≡ lookup ws 5 g → f ≡ None → ListsFit ws joins g lanes joined false
 lists_lost ws joins g lanes joined f j e q = record { new = λ k. no j k; group = λ _ i k. absurd (let z : ◌≡◌ {A = ℕ} 0 1 = cc in omega arith); lost = λ _ _. refl }
 
-pub lists_group : (ws : List ℕ) (joins : Bool) (g lanes : ℕ) (joined : Entries) (f : Found) (i w : ℕ) (r : Bool) → joins ≡ true → f ≡ lookup ws 5 g → f ≡ At i → w ≡ get_or (row_of ws 5 i) 41 0 → r ≡ (ltb w 16 && leb joined.count 16)
+pub lists_group : (ws : List ℕ) (joins : Bool) (g lanes : ℕ) (joined : Entries) (f : Found) (i w : ℕ) (r : Bool) → joins ≡ true → f ≡ lookup ws 5 g → f ≡ Some i → w ≡ get_or (row_of ws 5 i) 41 0 → r ≡ (ltb w 16 && leb joined.count 16)
     → ListsFit ws joins g lanes joined r
 lists_group ws joins g lanes joined f i w r j e q ew er =
     record {
@@ -232,14 +230,14 @@ room_is lines signals rules used drawn joins fr fp more bulbs lists counts pts r
 -- ---- 9, then 10
 
 module _ (ws lanes : List ℕ) (l : Light) (line housing : Line) (lamps : Bool) (count : ℕ) (joined : Entries) (b : Bool) (eb : b ≡ on_map l.drawn (points_of line) (points_of housing) lamps) where
-  pub fitted_off : b ≡ false → Fitted ws lanes l line housing lamps count joined (Refused OffTheMap)
+  pub fitted_off : b ≡ false → Fitted ws lanes l line housing lamps count joined (Err OffTheMap)
   fitted_off e = record { off = λ _. refl; on = λ q. no q (sym eb ∙ e) }
 
   module _ (e : b ≡ true) (freed : Freed) (goes : FreedRead ws (line_in l) lanes freed) (lists : Bool) (fit : ListsFit ws l.joins l.rule (length lanes) joined lists)
       (more : ℕ) (em : more ≡ cond l.drawn line.count 0 + housing.count) (r : Bool)
       (er : r ≡ room_for (count_of ws 2) (count_of ws 3) (count_of ws 5) (all_points ws) l.drawn l.joins freed.rules freed.points more count lists) where
-    pub fitted_full : r ≡ false → Fitted ws lanes l line housing lamps count joined (Refused Full)
+    pub fitted_full : r ≡ false → Fitted ws lanes l line housing lamps count joined (Err Full)
     fitted_full q = record { off = λ k. no (sym eb ∙ e) k; on = λ _. record { freed = freed; lists = lists; goes = goes; fit = fit; answer = rw (← em, ← er, q) } }
 
-    pub fitted_fine : r ≡ true → Fitted ws lanes l line housing lamps count joined Fine
+    pub fitted_fine : r ≡ true → Fitted ws lanes l line housing lamps count joined (Ok tt)
     fitted_fine q = record { off = λ k. no (sym eb ∙ e) k; on = λ _. record { freed = freed; lists = lists; goes = goes; fit = fit; answer = rw (← em, ← er, q) } }

@@ -1,6 +1,5 @@
 -- What the tests of a light's room answer, and its plan.
-use Rattle.std.specs.Prelude.{ℕ, ◌+◌, ◌<◌, ◌≡◌, Bool, true, false, not, ◌&&◌, cond, List, [], leb, ltb, Float, length, get_or}
-use Rattle.std.proofs.Math.Option.{Option, some}
+use Rattle.std.specs.Prelude.{ℕ, ◌+◌, ◌<◌, ◌≡◌, Bool, true, false, not, ◌&&◌, cond, List, [], leb, ltb, Float, length, get_or, Option, Some, Err, Ok, Result}
 use Rattle.refusal.specs.Answer.{done, refused_as, refuse_when}
 use Rattle.refusal.specs.declared.Refusal.{Refusal}
 use Rattle.refusal.specs.declared.Refusal.TheVariants.{OffTheMap}
@@ -12,14 +11,12 @@ use Rattle.centerline.specs.Line.{points_of}
 use Rattle.store.specs.Layout.{count_of, next_of, row_of}
 use Rattle.row_tests.specs.Flat.{all_points}
 use Rattle.map.specs.declared.Entries.{Entries}
-use Rattle.map.specs.declared.Found.TheVariants.{At, Nothing}
+use Rattle.std.specs.Prelude.{Some, None}
 use Rattle.map.specs.Ceilings.{rule_points}
 use Rattle.map.specs.Record.{Map}
 use Rattle.map.specs.Tables.{list_at, map_of}
 use Rattle.map.specs.Access.{lookup}
 use Rattle.place.specs.Values.{Roomy, maybe_ends}
-use Rattle.placing.specs.declared.Checked.{Checked}
-use Rattle.placing.specs.declared.Checked.TheVariants.{Fine, Refused}
 use Rattle.placing.specs.Answers.{checked}
 use Rattle.edit.specs.declared.SignalRequest.{SignalRequest}
 use Rattle.edit.specs.Edit.{Draft}
@@ -53,15 +50,15 @@ pub record FreedRead (ws : List ℕ) (line : Option ℕ) (lanes : List ℕ) (r :
 
 pub record JoinedFor (ws : List ℕ) (joins : Bool) (g : ℕ) (lanes : List ℕ) (r : Entries) : Type 0 where
   pub room : length r.entries ≡ 16
-  pub lists : joins ≡ true → (i : ℕ) → lookup ws 5 g ≡ At i → JoinedRead (list_at (row_of ws 5 i) 7) lanes r
+  pub lists : joins ≡ true → (i : ℕ) → lookup ws 5 g ≡ Some i → JoinedRead (list_at (row_of ws 5 i) 7) lanes r
   -- none where no light is joined, or there is none
   pub alone : joins ≡ false → r.count ≡ 0
-  pub lost : lookup ws 5 g ≡ Nothing → r.count ≡ 0
+  pub lost : lookup ws 5 g ≡ None → r.count ≡ 0
 
 pub record ListsFit (ws : List ℕ) (joins : Bool) (g lanes : ℕ) (joined : Entries) (r : Bool) : Type 0 where
   pub new : joins ≡ false → r ≡ leb lanes 16
-  pub group : joins ≡ true → (i : ℕ) → lookup ws 5 g ≡ At i → r ≡ (ltb (get_or (row_of ws 5 i) 41 0) 16 && leb joined.count 16)
-  pub lost : joins ≡ true → lookup ws 5 g ≡ Nothing → r ≡ false
+  pub group : joins ≡ true → (i : ℕ) → lookup ws 5 g ≡ Some i → r ≡ (ltb (get_or (row_of ws 5 i) 41 0) 16 && leb joined.count 16)
+  pub lost : joins ≡ true → lookup ws 5 g ≡ None → r ≡ false
 
 -- ---- room
 
@@ -72,7 +69,7 @@ unfoldable pub room_for : ℕ → ℕ → ℕ → ℕ → Bool → Bool → ℕ 
 room_for lines signals rules used drawn joins freed_rules freed_points more bulbs lists =
     counts_fit lines signals rules drawn joins freed_rules && (leb bulbs 4 && (lists && leb (used + more) (1024 + freed_points)))
 
-pub record RoomTested (ws lanes : List ℕ) (l : Light) (line housing : Line) (count : ℕ) (joined : Entries) (r : Checked) : Type 0 where
+pub record RoomTested (ws lanes : List ℕ) (l : Light) (line housing : Line) (count : ℕ) (joined : Entries) (r : Result (Unit {0}) Refusal) : Type 0 where
   pub freed : Freed
   pub lists : Bool
   pub goes : FreedRead ws (line_in l) lanes freed
@@ -80,14 +77,14 @@ pub record RoomTested (ws lanes : List ℕ) (l : Light) (line housing : Line) (c
   pub answer : checked r
       ≡ refuse_when (not (room_for (count_of ws 2) (count_of ws 3) (count_of ws 5) (all_points ws) l.drawn l.joins freed.rules freed.points (cond l.drawn line.count 0 + housing.count) count lists)) 10 []
 
-pub record Fitted (ws lanes : List ℕ) (l : Light) (line housing : Line) (lamps : Bool) (count : ℕ) (joined : Entries) (r : Checked) : Type 0 where
-  pub off : on_map l.drawn (points_of line) (points_of housing) lamps ≡ false → r ≡ Refused OffTheMap
+pub record Fitted (ws lanes : List ℕ) (l : Light) (line housing : Line) (lamps : Bool) (count : ℕ) (joined : Entries) (r : Result (Unit {0}) Refusal) : Type 0 where
+  pub off : on_map l.drawn (points_of line) (points_of housing) lamps ≡ false → r ≡ Err OffTheMap
   pub on : on_map l.drawn (points_of line) (points_of housing) lamps ≡ true → RoomTested ws lanes l line housing count joined r
 
 -- ---- the plan
 
 pub record PlanRefused (x : Refusal) (r : SignalPlan) : Type 0 where
-  pub answer : r.checked ≡ Refused x
+  pub answer : r.checked ≡ Err x
 
 -- what the plan stands for, and its draft
 abbrev pub planned_in : List ℕ → SignalPlan → Planned
@@ -106,10 +103,10 @@ pub record SignalReady (ws : List ℕ) (cs : List Float) (q : SignalRequest) (la
   pub housing_room : Roomy p.housing
   pub lanes : 0 < length a.lanes
   pub lamps_read : BulbsRead q (points_of p.housing) lamps p.bulbs
-  pub group : (g : ℕ) → a.group ≡ some g → Joinable (map_of ws cs) g
+  pub group : (g : ℕ) → a.group ≡ Some g → Joinable (map_of ws cs) g
   pub joined_lanes_is : JoinedFor ws p.light.joins p.light.rule a.lanes p.joined
-  pub tested : RoomTested ws a.lanes p.light p.line p.housing p.bulbs.count p.joined Fine
+  pub tested : RoomTested ws a.lanes p.light p.line p.housing p.bulbs.count p.joined (Ok tt)
 
 pub record SignalPlanned (ws : List ℕ) (cs : List Float) (q : SignalRequest) (lamps : List Float) (a : NewTrafficSignal) (p : SignalPlan) : Type 0 where
-  pub refused : (x : Refusal) → p.checked ≡ Refused x → planned (light_edit a) (map_of ws cs) ≡ refused_as x
-  pub ready : p.checked ≡ Fine → SignalReady ws cs q lamps a p
+  pub refused : (x : Refusal) → p.checked ≡ Err x → planned (light_edit a) (map_of ws cs) ≡ refused_as x
+  pub ready : p.checked ≡ (Ok tt) → SignalReady ws cs q lamps a p

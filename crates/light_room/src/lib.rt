@@ -18,20 +18,19 @@ use light_draft::{Light, light_of};
 use lighting::LinePlan;
 use lighting::plan::light_plan;
 use map::Entries;
-use place::MaybeEnds;
-use placing::Checked;
+use place::SectionNames;
 use refusal::Refusal;
 use signal_row::{Bulbs, bulbs_of};
 
 // Where the check is fine: all that is stored.
 #[derive(Drop)]
 pub struct SignalPlan {
-    pub checked: Checked,
+    pub checked: Result<(), Refusal>,
     pub plan: LinePlan,
     pub light: Light,
     pub line: Line,
     pub clamped: bool,
-    pub ends: MaybeEnds,
+    pub ends: Option<SectionNames>,
     pub housing: Line,
     pub synthesized: bool,
     pub bulbs: Bulbs,
@@ -49,20 +48,20 @@ fn fitted(
     lamps: bool,
     count: u64,
     joined: Entries,
-) -> Checked
+) -> Result<(), Refusal>
     requires { ReadableWords words.now × ShapesFew words.now × Few words.now × (all_points words.now ≤ 1024) × Roomy line × Roomy housing }
     ensures { Fitted words.now lanes.now l line housing lamps count joined result }
 {
     if !tests::on_map(l.drawn, line, housing, lamps) {
-        return Checked::Refused(Refusal::OffTheMap);
+        return Err(Refusal::OffTheMap);
     }
     let freed = tests::freed_by(words, l.has_line, l.line, lanes);
     let lists = tests::lists_fit(words, l.joins, l.rule, lanes.len(), joined);
     let more = tests::points_of(l.drawn, line.count, housing.count);
     if !tests::room(words, l.drawn, l.joins, freed, more, count, lists) {
-        return Checked::Refused(Refusal::Full);
+        return Err(Refusal::Full);
     }
-    Checked::Fine
+    Ok(())
 }
 
 fn refused_plan(r: Refusal, p: SignalPlan) -> SignalPlan
@@ -76,7 +75,7 @@ fn refused_plan(r: Refusal, p: SignalPlan) -> SignalPlan
     let bulbs = p.bulbs;
     let joined = p.joined;
     SignalPlan {
-        checked: Checked::Refused(r),
+        checked: Err(r),
         plan,
         light,
         line,
@@ -124,13 +123,13 @@ pub fn signal_plan(
         bulbs,
         joined,
     };
-    if let Checked::Refused(_) = checked {
+    if let Err(_) = checked {
         return all;
     }
     let asked = q.lamps;
     let on = tests::lamps_on(asked.given, lamps, bulbs);
     let end = fitted(words, lanes, light, line, housing, on, bulbs.count, joined);
-    if let Checked::Refused(r) = end {
+    if let Err(r) = end {
         return refused_plan(r, all);
     }
     all

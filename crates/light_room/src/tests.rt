@@ -1,6 +1,5 @@
 // Whether what is stored of a light is on the map, and whether the map that it leaves keeps below the ceilings.
-ghost use Rattle.std.specs.Prelude.{◌≡◌, true, false, cond, ◌+◌, ◌≤◌, leb};
-ghost use Rattle.std.proofs.Math.Option.{none, some};
+ghost use Rattle.std.specs.Prelude.{◌≡◌, true, false, cond, ◌+◌, ◌≤◌, leb, None, Some};
 ghost use Rattle.rows.specs.Lists.{every};
 ghost use Rattle.geometry.specs.Point.{point_on_map};
 ghost use Rattle.centerline.specs.Line.{points_of};
@@ -16,8 +15,9 @@ use centerline::Line;
 use grouping::joined_lanes;
 use lifting::{Freed, gone};
 use light_draft::both;
-use map::{Entries, Found, lookup};
+use map::{Entries, lookup};
 use signal_row::{Bulbs, bulbs_on_map};
+use store::Kind;
 
 // A line, where it is stored.
 fn line_on(asked: bool, line: Line) -> bool
@@ -59,7 +59,7 @@ pub fn on_map(drawn: bool, line: Line, housing: Line, lamps: bool) -> bool
 // What goes under a light: nothing where it has no line.
 pub fn freed_by(words: &[u64], lined: bool, line: u64, lanes: &[u64]) -> Freed
     requires { ReadableWords words.now × ShapesFew words.now }
-    ensures { FreedRead words.now (cond lined (some line) none) lanes.now result }
+    ensures { FreedRead words.now (cond lined (Some line) None) lanes.now result }
 {
     if !lined {
         return Freed {
@@ -82,7 +82,7 @@ pub fn joined_for(words: &[u64], joins: bool, rule: u64, lanes: &[u64]) -> Entri
     if !joins {
         return none;
     }
-    let Found::At(i) = lookup::find(words, 5, rule) else {
+    let Some(i) = lookup::find(words, Kind::Rule, rule) else {
         return none;
     };
     joined_lanes(words, i, lanes)
@@ -96,10 +96,13 @@ pub fn lists_fit(words: &[u64], joins: bool, rule: u64, lanes: usize, joined: En
     if !joins {
         return lanes <= 16;
     }
-    let Found::At(i) = lookup::find(words, 5, rule) else {
+    let Some(i) = lookup::find(words, Kind::Rule, rule) else {
         return false;
     };
-    both(lookup::word(words, 5, i, 41) < 16, joined.count <= 16)
+    both(
+        lookup::word(words, Kind::Rule, i, 41) < 16,
+        joined.count <= 16,
+    )
 }
 
 fn one(b: bool) -> usize
@@ -116,9 +119,9 @@ fn counts_fit(words: &[u64], drawn: bool, joins: bool, freed: usize) -> bool
     requires { SizedWords words.now × (freed ≤ 128) }
     ensures { result ≡ counts_fit (count_of words.now 2) (count_of words.now 3) (count_of words.now 5) drawn joins freed }
 {
-    let lines = store::count(words, 2) + one(drawn);
-    let signals = store::count(words, 3) + 1;
-    let rules = store::count(words, 5) + one(!joins);
+    let lines = store::count(words, Kind::StopLine) + one(drawn);
+    let signals = store::count(words, Kind::Signal) + 1;
+    let rules = store::count(words, Kind::Rule) + one(!joins);
     both(lines <= 64, both(signals <= 64, rules <= 128 + freed))
 }
 

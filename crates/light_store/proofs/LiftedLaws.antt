@@ -2,7 +2,7 @@
 use Prim.Native.Nat.{ℕ, suc, ◌≤◌}
 use mathlib.Core.Path.{◌≡◌, refl}
 use mathlib.Core.Bool.{Bool, true, false, ◌&&◌, cond}
-use mathlib.Core.Option.{Option, none, some}
+use Rattle.std.specs.Prelude.{Option, None, Some}
 use mathlib.Core.List.{List, [], ◌∷◌, ◌++◌}
 use native.Mathlib.Omega.{arith}
 use borrow.Author.Tests.{leb-true}
@@ -35,14 +35,14 @@ module _ (s : ℕ) (lanes : List ℕ) where
       go (eased ks) q = and_i (leb low x.num && ltb x.num high) _ first q
       go gone q = let l = low_is in rising_wider (λ (y : Rule). y.num) (suc x.num) low high high (lifted_rules s lanes rs) (omega arith) (omega arith) q
 
-  lifted_found : (g : ℕ) (rs : List Rule) (r : Rule) → lift s lanes r ≡ kept → find (λ (x : Rule). x.num) g rs ≡ some r → find (λ (x : Rule). x.num) g (lifted_rules s lanes rs) ≡ some r
+  lifted_found : (g : ℕ) (rs : List Rule) (r : Rule) → lift s lanes r ≡ kept → find (λ (x : Rule). x.num) g rs ≡ Some r → find (λ (x : Rule). x.num) g (lifted_rules s lanes rs) ≡ Some r
   unfolding find joined lifted
   lifted_found g [] r k e = e
   lifted_found g (x ∷ rs) r k e = go (eqb x.num g) refl e (lift s lanes x) refl (λ q. lifted_found g rs r k q)
     where
-      go : (b : Bool) → eqb x.num g ≡ b → cond b (some x) (find (λ (y : Rule). y.num) g rs) ≡ some r → (t : Lift) → lift s lanes x ≡ t
-          → (find (λ (y : Rule). y.num) g rs ≡ some r → find (λ (y : Rule). y.num) g (lifted_rules s lanes rs) ≡ some r)
-          → find (λ (y : Rule). y.num) g (lifted x t ++ lifted_rules s lanes rs) ≡ some r
+      go : (b : Bool) → eqb x.num g ≡ b → cond b (Some x) (find (λ (y : Rule). y.num) g rs) ≡ Some r → (t : Lift) → lift s lanes x ≡ t
+          → (find (λ (y : Rule). y.num) g rs ≡ Some r → find (λ (y : Rule). y.num) g (lifted_rules s lanes rs) ≡ Some r)
+          → find (λ (y : Rule). y.num) g (lifted x t ++ lifted_rules s lanes rs) ≡ Some r
       go true eb e kept et f = rw eb e
       go true eb e (eased ks) et f = let q : x ≡ r = cc in absurd (let z : ◌≡◌ {A = ℕ} 0 1 = cc in omega arith)
       go true eb e gone et f = let q : x ≡ r = cc in absurd (let z : ◌≡◌ {A = ℕ} 0 1 = cc in omega arith)
@@ -53,10 +53,10 @@ module _ (s : ℕ) (lanes : List ℕ) where
 pub first_rises : (m : Map) (o : Option ℕ) (lanes : List ℕ) → rising (λ (x : Rule). x.num) 0 m.next m.rules ≡ true
     → rising (λ (x : Rule). x.num) 0 (lifted_first m o lanes).next (lifted_first m o lanes).rules ≡ true
 unfolding lifted_first
-first_rises m none lanes h = h
-first_rises m (some s) lanes h = lifted_rises s lanes 0 m.next m.rules h
+first_rises m None lanes h = h
+first_rises m (Some s) lanes h = lifted_rises s lanes 0 m.next m.rules h
 
-pub first_found : (m : Map) (o : Option ℕ) (lanes : List ℕ) (g : ℕ) (j : Joinable m g) → rule_of (lifted_first m o lanes) g ≡ some j.rule
+pub first_found : (m : Map) (o : Option ℕ) (lanes : List ℕ) (g : ℕ) (j : Joinable m g) → rule_of (lifted_first m o lanes) g ≡ Some j.rule
 unfolding lifted_first rule_of
-first_found m none lanes g j = j.found
-first_found m (some s) lanes g j = lifted_found s lanes g m.rules j.rule (light_kept s lanes j.rule j.signals j.line j.body) j.found
+first_found m None lanes g j = j.found
+first_found m (Some s) lanes g j = lifted_found s lanes g m.rules j.rule (light_kept s lanes j.rule j.signals j.line j.body) j.found

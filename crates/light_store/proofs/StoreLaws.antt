@@ -2,7 +2,6 @@
 use Prim.Native.Nat.{◌-◌, ℕ, zero, suc, ◌+◌, ◌/◌, ◌^◌, ◌≤◌, ◌<◌, max}
 use mathlib.Core.Path.{◌≡◌, refl, sym, ap, ◌∙◌}
 use mathlib.Core.Bool.{Bool, true, false, not, cond}
-use mathlib.Core.Option.{Option, none, some}
 use mathlib.Core.List.{List, [], ◌∷◌}
 use native.Mathlib.Nat.{max-eq_right, le-max_right}
 use native.Mathlib.Omega.{arith}
@@ -17,20 +16,20 @@ use Rattle.centerline.specs.Line.{points_of}
 use Rattle.store.specs.Layout.{Sized, count_of, next_of, row_of, coords_of}
 use Rattle.store.proofs.StoreLaws.{length_records}
 use Rattle.map.specs.declared.Entries.{Entries}
-use Rattle.map.specs.declared.Found.{Found}
-use Rattle.map.specs.declared.Found.TheVariants.{At, Nothing}
+use Rattle.map.specs.Access.{Found}
+use Rattle.std.specs.Prelude.{Some, None, Option}
 use Rattle.map.specs.Record.{RuleBody, light, Signal, Rule, Map}
 use Rattle.map.specs.Rows.{with_line, with_signal, with_rule, with_rules}
 use Rattle.map.specs.Lookup.{rule_of}
 use Rattle.map.specs.Tables.{list_at, body_of, line_string_in, signal_in, rule_in, map_of}
 use Rattle.map.specs.Access.{lookup}
-use Rattle.map.specs.Updates.{signal_of_parts, LinePushed, SignalPushed, RulePushed, new_body}
+use Rattle.map.specs.Updates.{signal_of_parts, LinePushed, SignalPushed, RulePushed, body_of_new}
+use Rattle.map.specs.declared.NewRule.TheVariants as n
+use Rattle.std.specs.Bool.{then_some}
 use Rattle.map.proofs.ReadLaws.{rule_number_lem, found_index, rule_found, no_rule}
 use Rattle.place.specs.Readable.{ReadableWords, Readable}
 use Rattle.place.specs.Values.{Roomy}
 use Rattle.place.proofs.LineLaws.{line_part_lem}
-use Rattle.placing.specs.declared.MaybeNumber.{MaybeNumber}
-use Rattle.placing.specs.Answers.{maybe_number}
 use Rattle.lifting.specs.Applying.{LiftsApplied}
 use Rattle.lifting.specs.Lifting.{entries_of}
 use Rattle.signal_row.specs.declared.SignalRow.{SignalRow}
@@ -71,33 +70,33 @@ lift_some ws cs l lanes ws' cs' e p = record { map = rw e p.map; readable = p.re
 
 -- ---- the group
 
-pub line_there : (l : Light) → l.has_line ≡ true → Rattle.placing.specs.declared.MaybeNumber.TheVariants.At l.line ≡ line_maybe l
+pub line_there : (l : Light) → l.has_line ≡ true → Some l.line ≡ line_maybe l
 line_there l e = rw e
 
-pub line_missing : (l : Light) → l.has_line ≡ false → Rattle.placing.specs.declared.MaybeNumber.TheVariants.Nothing ≡ line_maybe l
+pub line_missing : (l : Light) → l.has_line ≡ false → None ≡ line_maybe l
 line_missing l e = rw e
 
-pub line_is : (l : Light) → maybe_number (line_maybe l) ≡ line_in l
+pub line_is : (l : Light) → (line_maybe l) ≡ line_in l
 line_is l = go l.has_line
   where
-    go : (b : Bool) → maybe_number (cond b (Rattle.placing.specs.declared.MaybeNumber.TheVariants.At l.line) Rattle.placing.specs.declared.MaybeNumber.TheVariants.Nothing) ≡ cond b (some l.line) none
+    go : (b : Bool) → (cond b (Some l.line) None) ≡ cond b (Some l.line) None
     go true = refl
     go false = refl
 
 pub not_joined : (ws : List ℕ) (l : Light) (joined : Entries) → l.joins ≡ false → GroupStored ws l joined ws
 not_joined ws l joined e = record { kept = λ _. refl; put = λ q. absurd (let z : ◌≡◌ {A = Bool} true false = sym q ∙ e in let y : ◌≡◌ {A = ℕ} 0 1 = cc in omega arith) }
 
-pub never_lost : (ws : List ℕ) (l : Light) (joined : Entries) (f : Found) → (l.joins ≡ true → RowReady ws l.rule joined) → l.joins ≡ true → f ≡ lookup ws 5 l.rule → f ≡ Nothing → GroupStored ws l joined ws
+pub never_lost : (ws : List ℕ) (l : Light) (joined : Entries) (f : Found) → (l.joins ≡ true → RowReady ws l.rule joined) → l.joins ≡ true → f ≡ lookup ws 5 l.rule → f ≡ None → GroupStored ws l joined ws
 never_lost ws l joined f h j e q = absurd ((h j).there (sym e ∙ q))
 
-pub joined_put : (ws : List ℕ) (l : Light) (joined : Entries) (f : Found) (i : ℕ) (line : MaybeNumber) (ws' : List ℕ) → l.joins ≡ true → f ≡ lookup ws 5 l.rule → f ≡ At i → line ≡ line_maybe l
+pub joined_put : (ws : List ℕ) (l : Light) (joined : Entries) (f : Found) (i : ℕ) (line : Option ℕ) (ws' : List ℕ) → l.joins ≡ true → f ≡ lookup ws 5 l.rule → f ≡ Some i → line ≡ line_maybe l
     → GroupPut ws i l.signal line (entries_of joined) ws' → GroupStored ws l joined ws'
 joined_put ws l joined f i line ws' j e q el p = record {
   kept = λ r. absurd (let z : ◌≡◌ {A = Bool} true false = sym j ∙ r in let y : ◌≡◌ {A = ℕ} 0 1 = cc in omega arith);
   put = λ _ k ek. let s : i ≡ k = cc in rw (← s, ← el) p;
 }
 
-pub put_asks : (ws : List ℕ) (l : Light) (joined : Entries) (f : Found) (i : ℕ) → ReadableWords ws → (l.joins ≡ true → RowReady ws l.rule joined) → l.joins ≡ true → f ≡ lookup ws 5 l.rule → f ≡ At i
+pub put_asks : (ws : List ℕ) (l : Light) (joined : Entries) (f : Found) (i : ℕ) → ReadableWords ws → (l.joins ≡ true → RowReady ws l.rule joined) → l.joins ≡ true → f ≡ lookup ws 5 l.rule → f ≡ Some i
     → ReadableWords ws × (i < count_of ws 5) × (get_or (row_of ws 5 i) 1 0 ≡ 1) × (get_or (row_of ws 5 i) 41 0 < 16) × (length (entries_of joined) ≤ 16)
 put_asks ws l joined f i ok h j e q =
     let at = sym e ∙ q in
@@ -134,12 +133,12 @@ signal_done ws cs row housing ws' cs' p = record { map = p.map; sized = p.kept.s
 pub rule_none : (ws : List ℕ) (l : Light) (lanes : List ℕ) → l.joins ≡ true → RuleStored ws l lanes ws
 rule_none ws l lanes e = record { map = λ cs k. rw e }
 
-pub rule_some : (ws : List ℕ) (l : Light) (lanes : List ℕ) (flag : ℕ) (ws' : List ℕ) → l.joins ≡ false → flag ≡ one_if l.has_line → RulePushed ws (new_body 1 0 flag l.line (l.signal ∷ [])) lanes ws' → RuleStored ws l lanes ws'
-rule_some ws l lanes flag ws' e f p = record { map = λ cs k. rw e (p.map cs k ∙ ap (λ (w : RuleBody). with_rule (map_of ws cs) w lanes) (body l.has_line flag f)) }
+pub rule_some : (ws : List ℕ) (l : Light) (lanes : List ℕ) (line : Found) (ws' : List ℕ) → l.joins ≡ false → line ≡ then_some l.has_line l.line → RulePushed ws (body_of_new (n.Light line) (l.signal ∷ [])) lanes ws' → RuleStored ws l lanes ws'
+rule_some ws l lanes line ws' e f p = record { map = λ cs k. rw e (p.map cs k ∙ ap (λ (w : RuleBody). with_rule (map_of ws cs) w lanes) (body l.has_line line f)) }
   where
-    body : (b : Bool) (n : ℕ) → n ≡ one_if b → new_body 1 0 n l.line (l.signal ∷ []) ≡ light (l.signal ∷ []) (cond b (some l.line) none)
-    body true n q = rw q
-    body false n q = rw q
+    body : (b : Bool) (o : Found) → o ≡ then_some b l.line → body_of_new (n.Light o) (l.signal ∷ []) ≡ light (l.signal ∷ []) (cond b (Some l.line) None)
+    body true o q = rw q
+    body false o q = rw q
 
 -- ---- all of them
 
@@ -167,29 +166,29 @@ rule_body r c = refl
 
 -- the map with the group's rule put
 abbrev two_of : Map → ℕ → Option ℕ → List ℕ → Option Rule → Map
-two_of one n line lanes none = one
-two_of one n line lanes (some r) = with_rules one (replaced (λ x. x.num) (group_with r n line lanes) one.rules)
+two_of one n line lanes None = one
+two_of one n line lanes (Some r) = with_rules one (replaced (λ x. x.num) (group_with r n line lanes) one.rules)
 
 two_lines : (m : Map) (n : ℕ) (line : Option ℕ) (lanes : List ℕ) (g : Option Rule) → (two_of (lifted_first m line lanes) n line lanes g).stop_lines ≡ m.stop_lines
 unfolding lifted_first
-two_lines m n none lanes none = refl
-two_lines m n none lanes (some r) = refl
-two_lines m n (some s) lanes none = refl
-two_lines m n (some s) lanes (some r) = refl
+two_lines m n None lanes None = refl
+two_lines m n None lanes (Some r) = refl
+two_lines m n (Some s) lanes None = refl
+two_lines m n (Some s) lanes (Some r) = refl
 
 two_signals : (m : Map) (n : ℕ) (line : Option ℕ) (lanes : List ℕ) (g : Option Rule) → (two_of (lifted_first m line lanes) n line lanes g).signals ≡ m.signals
 unfolding lifted_first
-two_signals m n none lanes none = refl
-two_signals m n none lanes (some r) = refl
-two_signals m n (some s) lanes none = refl
-two_signals m n (some s) lanes (some r) = refl
+two_signals m n None lanes None = refl
+two_signals m n None lanes (Some r) = refl
+two_signals m n (Some s) lanes None = refl
+two_signals m n (Some s) lanes (Some r) = refl
 
 two_next : (m : Map) (n : ℕ) (line : Option ℕ) (lanes : List ℕ) (g : Option Rule) → (two_of (lifted_first m line lanes) n line lanes g).next ≡ m.next
 unfolding lifted_first
-two_next m n none lanes none = refl
-two_next m n none lanes (some r) = refl
-two_next m n (some s) lanes none = refl
-two_next m n (some s) lanes (some r) = refl
+two_next m n None lanes None = refl
+two_next m n None lanes (Some r) = refl
+two_next m n (Some s) lanes None = refl
+two_next m n (Some s) lanes (Some r) = refl
 
 -- with a line where one is drawn, and the signal
 abbrev three_of : Map → Bool → Polyline → Map
@@ -209,18 +208,18 @@ three_fresh two true xs = max-eq_right {n = 1} {m = suc (max 1 two.next)} (omega
 three_fresh two false xs = omega arith
 
 whole_new : (one : Map) (n : ℕ) (line : Option ℕ) (lanes : List ℕ) (drawn : Bool) (xs : Polyline) (s : Signal)
-    → with_rule (with_signal (three_of (two_of one n line lanes none) drawn xs) s) (light (n ∷ []) line) lanes ≡ with_light (with_signal (three_of one drawn xs) s) lanes n line none
+    → with_rule (with_signal (three_of (two_of one n line lanes None) drawn xs) s) (light (n ∷ []) line) lanes ≡ with_light (with_signal (three_of one drawn xs) s) lanes n line None
 unfolding with_light
 whole_new one n line lanes drawn xs s = refl
 
 whole_joined : (one : Map) (n : ℕ) (line : Option ℕ) (lanes : List ℕ) (drawn : Bool) (xs : Polyline) (s : Signal) (r : Rule)
-    → with_signal (three_of (two_of one n line lanes (some r)) drawn xs) s ≡ with_light (with_signal (three_of one drawn xs) s) lanes n line (some r)
+    → with_signal (three_of (two_of one n line lanes (Some r)) drawn xs) s ≡ with_light (with_signal (three_of one drawn xs) s) lanes n line (Some r)
 unfolding with_light
 whole_joined one n line lanes true xs s r = refl
 whole_joined one n line lanes false xs s r = refl
 
-group_in_lem : (m : Map) (l : Light) (b : Bool) → l.joins ≡ b → group_in m l ≡ cond b (rule_of m l.rule) none
-group_in_lem m l b e = ap (λ (t : Bool). cond t (rule_of m l.rule) none) e
+group_in_lem : (m : Map) (l : Light) (b : Bool) → l.joins ≡ b → group_in m l ≡ cond b (rule_of m l.rule) None
+group_in_lem m l b e = ap (λ (t : Bool). cond t (rule_of m l.rule) None) e
 
 module _ (ws : List ℕ) (cs : List Float) (lanes : List ℕ) (l : Light) (line housing : Line) (row : SignalRow) (joined : Entries) (asks : StoreAsks ws cs lanes l line housing row joined)
     (ws1 : List ℕ) (cs1 : List Float) (h1 : LiftStored ws cs l lanes ws1 cs1) where
@@ -228,16 +227,16 @@ module _ (ws : List ℕ) (cs : List Float) (lanes : List ℕ) (l : Light) (line 
     group : GroupAsks (map_of ws cs) l.rule lanes joined
     group = asks.group j
 
-    still : rule_of (map_of ws1 cs1) l.rule ≡ some group.joins.rule
+    still : rule_of (map_of ws1 cs1) l.rule ≡ Some group.joins.rule
     still = ap (λ (x : Map). rule_of x l.rule) h1.map ∙ first_found (map_of ws cs) (line_in l) lanes l.rule group.joins
 
-    its_rule : (i : ℕ) → lookup ws1 5 l.rule ≡ At i → rule_in (row_of ws1 5 i) (coords_of cs1 5 i) ≡ group.joins.rule
+    its_rule : (i : ℕ) → lookup ws1 5 l.rule ≡ Some i → rule_in (row_of ws1 5 i) (coords_of cs1 5 i) ≡ group.joins.rule
     its_rule i e = let a = rule_found ws1 cs1 l.rule i e in let b = still in cc
 
-    its_body : (i : ℕ) → lookup ws1 5 l.rule ≡ At i → body_of (get_or (row_of ws1 5 i) 1 0) (row_of ws1 5 i) (coords_of cs1 5 i) ≡ light group.joins.signals group.joins.line
+    its_body : (i : ℕ) → lookup ws1 5 l.rule ≡ Some i → body_of (get_or (row_of ws1 5 i) 1 0) (row_of ws1 5 i) (coords_of cs1 5 i) ≡ light group.joins.signals group.joins.line
     its_body i e = sym (rule_body (row_of ws1 5 i) (coords_of cs1 5 i)) ∙ ap (λ (r : Rule). r.body) (its_rule i e) ∙ group.joins.body
 
-    its_kind : (i : ℕ) → lookup ws1 5 l.rule ≡ At i → get_or (row_of ws1 5 i) 1 0 ≡ 1
+    its_kind : (i : ℕ) → lookup ws1 5 l.rule ≡ Some i → get_or (row_of ws1 5 i) 1 0 ≡ 1
     its_kind i e = body_kind (get_or (row_of ws1 5 i) 1 0) (row_of ws1 5 i) (coords_of cs1 5 i) _ _ (its_body i e)
 
     row_ready : RowReady ws1 l.rule joined
@@ -265,15 +264,15 @@ module _ (ws : List ℕ) (cs : List Float) (lanes : List ℕ) (l : Light) (line 
     )
 
     module _ (j : l.joins ≡ true) where
-      at_index : (i : ℕ) → lookup ws1 5 l.rule ≡ At i → Two
+      at_index : (i : ℕ) → lookup ws1 5 l.rule ≡ Some i → Two
       unfolding group_with
       at_index i e =
           let one = lifted_first (map_of ws cs) (line_in l) lanes in
           let p = h2.put j i e in
           let up : rising (λ (r : Rule). r.num) 0 (map_of ws1 cs1).next (map_of ws1 cs1).rules ≡ true = rw h1.map (first_rises (map_of ws cs) (line_in l) lanes asks.rises) in (
             group_replaced ws1 cs1 l.rule i l.signal (line_maybe l) (entries_of joined) ws2 e up h1.readable.coords p
-                ∙ ap (λ (x : Map). with_rules x (replaced (λ (y : Rule). y.num) (joined_rule (rule_in (row_of ws1 5 i) (coords_of cs1 5 i)) l.signal (maybe_number (line_maybe l)) (entries_of joined)) x.rules)) h1.map
-                ∙ ap (λ (r : Rule). with_rules one (replaced (λ (y : Rule). y.num) (joined_rule r l.signal (maybe_number (line_maybe l)) (entries_of joined)) one.rules)) (its_rule j i e)
+                ∙ ap (λ (x : Map). with_rules x (replaced (λ (y : Rule). y.num) (joined_rule (rule_in (row_of ws1 5 i) (coords_of cs1 5 i)) l.signal ((line_maybe l)) (entries_of joined)) x.rules)) h1.map
+                ∙ ap (λ (r : Rule). with_rules one (replaced (λ (y : Rule). y.num) (joined_rule r l.signal ((line_maybe l)) (entries_of joined)) one.rules)) (its_rule j i e)
                 ∙ ap (λ (o : Option ℕ). with_rules one (replaced (λ (y : Rule). y.num) (joined_rule (group j).joins.rule l.signal o (entries_of joined)) one.rules)) (line_is l)
                 ∙ ap (λ (ls : List ℕ). with_rules one (replaced (λ (y : Rule). y.num) (joined_rule (group j).joins.rule l.signal (line_in l) ls) one.rules)) (group j).all
                 ∙ sym (ap (two_of one l.signal (line_in l) lanes) (group_in_lem (map_of ws cs) l true j ∙ (group j).joins.found)),
@@ -281,8 +280,8 @@ module _ (ws : List ℕ) (cs : List Float) (lanes : List ℕ) (l : Light) (line 
           )
 
       two_some : (f : Found) → lookup ws1 5 l.rule ≡ f → Two
-      two_some (At i) e = at_index i e
-      two_some Nothing e = absurd ((row_ready j).there e)
+      two_some (Some i) e = at_index i e
+      two_some None e = absurd ((row_ready j).there e)
 
     two_is : (b : Bool) → l.joins ≡ b → Two
     two_is true e = two_some e (lookup ws1 5 l.rule) refl

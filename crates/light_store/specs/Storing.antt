@@ -1,13 +1,12 @@
 -- What storing a light asks for and leaves, step by step.
-use Rattle.std.specs.Prelude.{◌-◌, ℕ, ◌+◌, ◌*◌, ◌^◌, ◌≤◌, ◌<◌, max, ◌≡◌, Bool, true, false, not, cond, List, [], ◌∷◌, Float, length, get_or, take}
-use Rattle.std.proofs.Math.Option.{Option, none}
+use Rattle.std.specs.Prelude.{◌-◌, ℕ, ◌+◌, ◌*◌, ◌^◌, ◌≤◌, ◌<◌, max, ◌≡◌, Bool, true, false, not, cond, List, [], ◌∷◌, Float, length, get_or, take, Option, None}
 use Rattle.rows.specs.Table.{rising}
 use Rattle.geometry.specs.Polyline.{Polyline}
 use Rattle.centerline.specs.declared.Line.{Line}
 use Rattle.centerline.specs.Line.{points_of}
 use Rattle.store.specs.Layout.{SizedWords, Sized, count_of, next_of, row_of, all_coords}
 use Rattle.map.specs.declared.Entries.{Entries}
-use Rattle.map.specs.declared.Found.TheVariants.{At, Nothing}
+use Rattle.std.specs.Prelude.{Some, None}
 use Rattle.map.specs.Record.{light, Signal, Rule, Map}
 use Rattle.map.specs.Rows.{with_line, with_signal, with_rule}
 use Rattle.map.specs.Lookup.{rule_of}
@@ -16,8 +15,6 @@ use Rattle.map.specs.Access.{lookup}
 use Rattle.map.specs.Updates.{signal_of_parts}
 use Rattle.place.specs.Readable.{Readable}
 use Rattle.place.specs.Values.{Roomy}
-use Rattle.placing.specs.declared.MaybeNumber.{MaybeNumber}
-use Rattle.placing.specs.declared.MaybeNumber.TheVariants as n
 use Rattle.edit.specs.Light.{joined_lanes}
 use Rattle.lifting.specs.Lifting.{entries_of}
 use Rattle.signal_row.specs.declared.SignalRow.{SignalRow}
@@ -31,20 +28,20 @@ pub record LiftStored (ws : List ℕ) (cs : List Float) (l : Light) (lanes ws' :
   pub map : map_of ws' cs' ≡ lifted_first (map_of ws cs) (line_in l) lanes
   pub readable : Readable ws' cs'
 
-abbrev pub line_maybe : Light → MaybeNumber
-line_maybe l = cond l.has_line (n.At l.line) n.Nothing
+abbrev pub line_maybe : Light → Option ℕ
+line_maybe l = cond l.has_line (Some l.line) None
 
 -- the row of rule g is that of a light with room for a signal, and its lanes fit
 pub record RowReady (ws : List ℕ) (g : ℕ) (joined : Entries) : Type 0 where
-  pub there : lookup ws 5 g ≡ Nothing → ⊥
-  pub kind : (i : ℕ) → lookup ws 5 g ≡ At i → get_or (row_of ws 5 i) 1 0 ≡ 1
-  pub signals : (i : ℕ) → lookup ws 5 g ≡ At i → get_or (row_of ws 5 i) 41 0 < 16
+  pub there : lookup ws 5 g ≡ None → ⊥
+  pub kind : (i : ℕ) → lookup ws 5 g ≡ Some i → get_or (row_of ws 5 i) 1 0 ≡ 1
+  pub signals : (i : ℕ) → lookup ws 5 g ≡ Some i → get_or (row_of ws 5 i) 41 0 < 16
   pub room : length joined.entries ≡ 16
   pub few : joined.count ≤ 16
 
 pub record GroupStored (ws : List ℕ) (l : Light) (joined : Entries) (ws' : List ℕ) : Type 0 where
   pub kept : l.joins ≡ false → ws' ≡ ws
-  pub put : l.joins ≡ true → (i : ℕ) → lookup ws 5 l.rule ≡ At i → GroupPut ws i l.signal (line_maybe l) (entries_of joined) ws'
+  pub put : l.joins ≡ true → (i : ℕ) → lookup ws 5 l.rule ≡ Some i → GroupPut ws i l.signal (line_maybe l) (entries_of joined) ws'
 
 pub record LineAsks (ws : List ℕ) (cs : List Float) (drawn : Bool) (line : Line) : Type 0 where
   pub sized : Sized ws cs
@@ -109,7 +106,7 @@ pub record StoreAsks (ws : List ℕ) (cs : List Float) (lanes : List ℕ) (l : L
 
 -- the rule that is joined
 abbrev pub group_in : Map → Light → Option Rule
-group_in m l = cond l.joins (rule_of m l.rule) none
+group_in m l = cond l.joins (rule_of m l.rule) None
 
 unfoldable pub light_map : Map → Light → List ℕ → Polyline → Signal → Option Rule → Map
 light_map m l lanes xs s o =

@@ -9,10 +9,10 @@ ghost use Rattle.light_store.specs.Storing.{LiftStored, line_maybe, RowReady, Gr
 use centerline::Line;
 use grouping::group_put;
 use lifting::apply::apply_lifts;
-use light_draft::{Light, one_if};
-use map::{Entries, Found, lookup, update};
-use placing::MaybeNumber;
+use light_draft::Light;
+use map::{Entries, NewRule, lookup, update};
 use signal_row::SignalRow;
+use store::Kind;
 
 // What the light lifts from its line. It comes first, so that a rule that goes makes room for the light's.
 fn lift_stored(words: &mut [u64], coords: &mut [f64], l: Light, lanes: &[u64])
@@ -25,13 +25,13 @@ fn lift_stored(words: &mut [u64], coords: &mut [f64], l: Light, lanes: &[u64])
     apply_lifts(words, coords, l.line, lanes);
 }
 
-fn line_of(l: Light) -> MaybeNumber
+fn line_of(l: Light) -> Option<u64>
     ensures { result ≡ line_maybe l }
 {
     if l.has_line {
-        return MaybeNumber::At(l.line);
+        return Some(l.line);
     }
-    MaybeNumber::Nothing
+    None
 }
 
 // The rule of the light that is joined.
@@ -43,7 +43,7 @@ fn group_stored(words: &mut [u64], l: Light, joined: Entries)
         return;
     }
     let line = line_of(l);
-    let Found::At(i) = lookup::find(words, 5, l.rule) else {
+    let Some(i) = lookup::find(words, Kind::Rule, l.rule) else {
         return;
     };
     let entries = joined.entries;
@@ -84,7 +84,8 @@ fn rule_stored(words: &mut [u64], l: Light, lanes: &[u64])
         return;
     }
     let signals = [l.signal];
-    update::push_rule(words, 1, 0, one_if(l.has_line), l.line, lanes, &signals);
+    let line = l.has_line.then_some(l.line);
+    update::push_rule(words, NewRule::Light { line }, lanes, &signals);
 }
 
 // All of it.

@@ -2,7 +2,7 @@
 use Prim.Native.Nat.{ℕ, zero, suc, ◌+◌, ◌-◌, ◌≤◌, ◌<◌}
 use mathlib.Core.Path.{◌≡◌, refl, sym, ap, ◌∙◌}
 use mathlib.Core.Bool.{Bool, true, false, cond}
-use mathlib.Core.Option.{Option, none, some}
+use Rattle.std.specs.Prelude.{Option, None, Some}
 use mathlib.Core.List.{List}
 use native.Mathlib.Omega.{arith}
 use lib.Dec.{eqb}
@@ -16,42 +16,39 @@ use Rattle.map.specs.declared.RuleHead.{RuleHead}
 use Rattle.map.specs.Tables.{flag_at, list_at, body_of, rule_in, map_of}
 use Rattle.map.specs.Access.{HeadRead}
 use Rattle.place.specs.Readable.{ReadableWords}
-use Rattle.placing.specs.declared.MaybeNumber.{MaybeNumber}
-use Rattle.placing.specs.declared.MaybeNumber.TheVariants.{At, Nothing}
-use Rattle.placing.specs.Answers.{maybe_number}
 use Rattle.edit.specs.Light.{stops_at, existing_stop_line}
 use Rattle.lighting.specs.RuleLines.{head_line, line_of, LineOn, LineFound}
 
 -- ---- by kind
 
-module _ (b : Bool) (l : ℕ) (o : Option ℕ) (e : cond b (some l) none ≡ o) where
-  pub with_line_lem : b ≡ true → some l ≡ o
+module _ (b : Bool) (l : ℕ) (o : Option ℕ) (e : cond b (Some l) None ≡ o) where
+  pub with_line_lem : b ≡ true → Some l ≡ o
   with_line_lem t = rw t at e
 
-  pub without_line : b ≡ false → none ≡ o
+  pub without_line : b ≡ false → None ≡ o
   without_line t = rw t at e
 
 module _ (h : RuleHead) where
-  pub head_marking : h.kind ≡ 3 → some h.line ≡ head_line h
+  pub head_marking : h.kind ≡ 3 → Some h.line ≡ head_line h
   unfolding head_line
   head_marking e = rw (eq-eqb h.kind 3 e)
 
   module _ (n3 : h.kind ≡ 3 → ⊥) where
-    pub head_light : h.kind ≡ 1 → cond h.has_line (some h.line) none ≡ head_line h
+    pub head_light : h.kind ≡ 1 → cond h.has_line (Some h.line) None ≡ head_line h
     unfolding head_line
     head_light e = rw (ne_eqb h.kind 3 n3, eq-eqb h.kind 1 e)
 
     module _ (n1 : h.kind ≡ 1 → ⊥) where
-      pub head_sign : h.kind ≡ 2 → cond h.has_line (some h.line) none ≡ head_line h
+      pub head_sign : h.kind ≡ 2 → cond h.has_line (Some h.line) None ≡ head_line h
       unfolding head_line
       head_sign e = rw (ne_eqb h.kind 3 n3, ne_eqb h.kind 1 n1, eq-eqb h.kind 2 e)
 
-      pub head_none : (h.kind ≡ 2 → ⊥) → none ≡ head_line h
+      pub head_none : (h.kind ≡ 2 → ⊥) → None ≡ head_line h
       unfolding head_line
       head_none n2 = rw (ne_eqb h.kind 3 n3, ne_eqb h.kind 1 n1, ne_eqb h.kind 2 n2)
 
 by_kind : (k : ℕ) (r : List ℕ) (c : List Float)
-    → cond (eqb k 3) (some (get_or r 4 0)) (cond (eqb k 1) (cond (flag_at r 3) (some (get_or r 4 0)) none) (cond (eqb k 2) (cond (flag_at r 3) (some (get_or r 4 0)) none) none)) ≡ stops_at (body_of k r c)
+    → cond (eqb k 3) (Some (get_or r 4 0)) (cond (eqb k 1) (cond (flag_at r 3) (Some (get_or r 4 0)) None) (cond (eqb k 2) (cond (flag_at r 3) (Some (get_or r 4 0)) None) None)) ≡ stops_at (body_of k r c)
 unfolding stops_at
 by_kind zero r c = refl
 by_kind (suc zero) r c = refl
@@ -82,11 +79,11 @@ module _ (ws : List ℕ) (ok : ReadableWords ws) (i n : ℕ) (hi : i < count_of 
   rule_lanes = let k = ok.lanes i hi in (ok.sized, rule_there.1, omega arith)
 
   module _ (ls : List ℕ) (el : ls ≡ list_at (row_of ws 5 i) 7) (b : Bool) (eb : b ≡ member n (drop 0 ls)) where
-    pub line_listed : (h : RuleHead) (r : MaybeNumber) → b ≡ true → HeadRead (row_of ws 5 i) h → maybe_number r ≡ head_line h → LineOn ws i n r
+    pub line_listed : (h : RuleHead) (r : Option ℕ) → b ≡ true → HeadRead (row_of ws 5 i) h → r ≡ head_line h → LineOn ws i n r
     unfolding line_of rule_in
     line_listed h r t e q = record { answer = λ c. rw (← el, ← eb, t) (q ∙ head_is (row_of ws 5 i) h e c) }
 
-    pub line_unlisted : b ≡ false → LineOn ws i n Nothing
+    pub line_unlisted : b ≡ false → LineOn ws i n None
     unfolding line_of rule_in
     line_unlisted t = record { answer = λ c. rw (← el, ← eb, t) }
 
@@ -104,16 +101,16 @@ lineless_start ws n m e =
     record { within = omega arith; goes = λ cs. rw (z, ← e) (ap (first_of (line_of n)) (list_to_tab (λ j. rule_in (row_of ws 5 j) (coords_of cs 5 j)) m)) }
 
 module _ (ws : List ℕ) (n m i : ℕ) (inv : Lineless ws n m i) where
-  pub lineless_end : m ≤ i → LineFound ws n Nothing
+  pub lineless_end : m ≤ i → LineFound ws n None
   unfolding first_of
   lineless_end h = record { answer = λ cs. sym (inv.goes cs ∙ rw (tab_none (λ j. rule_in (row_of ws 5 j) (coords_of cs 5 j)) m i h)) }
 
-  module _ (h : i < m) (r : MaybeNumber) (e : LineOn ws i n r) where
-    pub lineless_found : (x : ℕ) → r ≡ At x → LineFound ws n (At x)
+  module _ (h : i < m) (r : Option ℕ) (e : LineOn ws i n r) where
+    pub lineless_found : (x : ℕ) → r ≡ Some x → LineFound ws n (Some x)
     unfolding first_of
     lineless_found x q = record { answer = λ cs. sym (inv.goes cs ∙ rw (tab_step (λ j. rule_in (row_of ws 5 j) (coords_of cs 5 j)) m i h, ← e.answer (coords_of cs 5 i), q)) }
 
-    pub lineless_next : r ≡ Nothing → Lineless ws n m (i + 1)
+    pub lineless_next : r ≡ None → Lineless ws n m (i + 1)
     unfolding first_of
     lineless_next q =
         record {

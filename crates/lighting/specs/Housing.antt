@@ -1,6 +1,5 @@
 -- What a housing stands for, and its definition with the centreline at hand.
-use Rattle.std.specs.Prelude.{◌≡◌, Bool, cond, List, [], ◌∷◌, Float}
-use Rattle.std.proofs.Math.Option.{Option, none, some}
+use Rattle.std.specs.Prelude.{◌≡◌, Bool, cond, List, [], ◌∷◌, Float, Option, None, Some}
 use Rattle.refusal.specs.Answer.{Answer, done, ◌>>=◌, ◌>>◌, present}
 use Rattle.geometry.specs.Double.{half}
 use Rattle.geometry.specs.Point.{xy}
@@ -16,7 +15,7 @@ use Rattle.lighting.specs.declared.Housing.{Housing}
 
 -- a warning where it was made up
 abbrev pub housing_of : Line → Bool → Placed
-housing_of l b = record { points = points_of l; warnings = cond b (warning 3 none ∷ []) []; ends = none }
+housing_of l b = record { points = points_of l; warnings = cond b (warning 3 None ∷ []) []; ends = None }
 
 abbrev pub housing_answer : Housing → Answer Placed
 housing_answer h = checked h.checked >> done (housing_of h.line h.synthesized)
@@ -33,7 +32,7 @@ synthesized_on center anchor = do
   done (housing_at mid dir)
 
 unfoldable pub housing_on : Option Polyline → Polyline → Option (List Float) → Answer Placed
-housing_on center anchor (some cs) = done (record { points = polyline_of cs; warnings = []; ends = none })
-housing_on center anchor none = do
+housing_on center anchor (Some cs) = done (record { points = polyline_of cs; warnings = []; ends = None })
+housing_on center anchor None = do
   xs ← synthesized_on center anchor
-  done (record { points = xs; warnings = warning 3 none ∷ []; ends = none })
+  done (record { points = xs; warnings = warning 3 None ∷ []; ends = None })

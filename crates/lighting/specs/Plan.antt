@@ -1,6 +1,5 @@
 -- What a light's plan stands for, and the parts of its definition that one function answers.
-use Rattle.std.specs.Prelude.{ℕ, ◌/◌, ◌≤◌, ◌<◌, ◌≡◌, Bool, true, false, cond, List, [], ◌∷◌, Float, length, get_or}
-use Rattle.std.proofs.Math.Option.{Option, none, some}
+use Rattle.std.specs.Prelude.{ℕ, ◌/◌, ◌≤◌, ◌<◌, ◌≡◌, Bool, true, false, cond, List, [], ◌∷◌, Float, length, get_or, Option, None, Some, Ok, Result}
 use Rattle.refusal.specs.Answer.{Answer, done, ◌>>=◌, ◌>>◌, present}
 use Rattle.geometry.specs.Double.{f0}
 use Rattle.geometry.specs.Polyline.{Polyline, polyline_length}
@@ -11,12 +10,9 @@ use Rattle.map.specs.Entity.{entity}
 use Rattle.map.specs.Lookup.{line_of}
 use Rattle.map.specs.Tables.{map_of}
 use Rattle.changes.specs.ChangeSet.{warning}
-use Rattle.place.specs.declared.MaybeEnds.{MaybeEnds}
 use Rattle.place.specs.declared.MaybeLine.{MaybeLine}
 use Rattle.place.specs.Place.{Placed, lane_centerline, cross_section}
 use Rattle.place.specs.Values.{maybe_line, Roomy, maybe_ends}
-use Rattle.placing.specs.declared.Checked.{Checked}
-use Rattle.placing.specs.declared.Checked.TheVariants.{Fine}
 use Rattle.placing.specs.declared.PlacedLine.{PlacedLine}
 use Rattle.placing.specs.Answers.{checked, placed_answer}
 use Rattle.edit.specs.declared.SignalRequest.{SignalRequest}
@@ -28,6 +24,8 @@ use Rattle.lighting.specs.declared.LinePlan.{LinePlan}
 use Rattle.lighting.specs.declared.LinePlan.TheVariants.{Use, NoLine, Draw}
 use Rattle.lighting.specs.Group.{chosen_plan}
 use Rattle.lighting.specs.Housing.{housing_of, housing_on}
+use Rattle.refusal.specs.declared.Refusal.{Refusal}
+use Rattle.place.specs.declared.SectionNames.{SectionNames}
 
 -- ---- the answer
 
@@ -37,8 +35,8 @@ plan_of NoLine p = use_none
 plan_of (Draw how) p = draw p
 
 -- a line drawn along the lane n, with a warning where its station was moved, and its ends' names
-abbrev pub drawn_of : ℕ → Line → Bool → MaybeEnds → Placed
-drawn_of n l b es = record { points = points_of l; warnings = cond b (warning 1 (some (entity 1 n)) ∷ []) []; ends = maybe_ends es }
+abbrev pub drawn_of : ℕ → Line → Bool → Option SectionNames → Placed
+drawn_of n l b es = record { points = points_of l; warnings = cond b (warning 1 (Some (entity 1 n)) ∷ []) []; ends = maybe_ends es }
 
 abbrev pub draws : LinePlan → Bool
 draws (Use s) = false
@@ -46,8 +44,8 @@ draws NoLine = false
 draws (Draw how) = true
 
 -- what is accepted tells names only of a line that it draws
-pub record EndsTold (c : Checked) (plan : LinePlan) (es : MaybeEnds) : Type 0 where
-  pub told : c ≡ Fine → draws plan ≡ false → maybe_ends es ≡ none
+pub record EndsTold (c : Result (Unit {0}) Refusal) (plan : LinePlan) (es : Option SectionNames) : Type 0 where
+  pub told : c ≡ (Ok tt) → draws plan ≡ false → maybe_ends es ≡ None
 
 abbrev pub light_answer : ℕ → LightPlan → Answer Planned
 light_answer n r =
@@ -65,7 +63,7 @@ pub record LightRead (lanes : List ℕ) (x : Answer Planned) (r : LightPlan) : T
 -- the same, with what an accepted plan says of the lanes
 pub record LightPlanned (lanes : List ℕ) (x : Answer Planned) (r : LightPlan) : Type 0 where
   pub read : LightRead lanes x r
-  pub some_lanes : r.checked ≡ Fine → 0 < length lanes
+  pub some_lanes : r.checked ≡ (Ok tt) → 0 < length lanes
 
 -- ---- the tests before the line's place
 
@@ -81,9 +79,9 @@ planned_as m lanes plan points given = chosen_plan m lanes plan points >>= plann
 
 pub record ChoiceMade (ws lanes : List ℕ) (q : SignalRequest) (housing : List Float) (r : ChosenLine) : Type 0 where
   pub answer : (cs points : List Float) → light_plan (new_traffic_signal lanes q points housing []) (map_of ws cs)
-      ≡ (checked r.checked >> planned_as (map_of ws cs) lanes r.plan points (cond q.housing_given (some housing) none))
-  pub some_lanes : r.checked ≡ Fine → 0 < length lanes
-  pub few : r.checked ≡ Fine → q.housing_given ≡ true → length housing / 3 ≤ 64
+      ≡ (checked r.checked >> planned_as (map_of ws cs) lanes r.plan points (cond q.housing_given (Some housing) None))
+  pub some_lanes : r.checked ≡ (Ok tt) → 0 < length lanes
+  pub few : r.checked ≡ (Ok tt) → q.housing_given ≡ true → length housing / 3 ≤ 64
 
 -- ---- the line's place
 
@@ -98,16 +96,16 @@ pub record CenterAt (m : Map) (n : ℕ) (asked : Bool) (c : MaybeLine) : Type 0 
   pub room : Roomy c.line
 
 pub record StoredRead (m : Map) (s : ℕ) (a : PlacedLine) : Type 0 where
-  pub answer : (n : ℕ) → placed_answer n a ≡ (present (line_of m s) 2 (5 ∷ s ∷ []) >>= λ l. done (record { points = l.geometry; warnings = []; ends = none }))
+  pub answer : (n : ℕ) → placed_answer n a ≡ (present (line_of m s) 2 (5 ∷ s ∷ []) >>= λ l. done (record { points = l.geometry; warnings = []; ends = None }))
   pub room : Roomy a.line
 
 -- where the first lane ends
 abbrev pub end_of : Option Polyline → Float
-end_of o = elim o [ none ↦ f0 | some c ↦ polyline_length c ]
+end_of o = elim o [ None ↦ f0 | Some c ↦ polyline_length c ]
 
 pub record EndRead (m : Map) (lanes : List ℕ) (a : PlacedLine) : Type 0 where
   pub answer : (n : ℕ) → placed_answer n a
-      ≡ (cross_section m (get_or lanes 0 0) (end_of (lane_centerline m (get_or lanes 0 0))) lanes >>= λ x. done (record { points = x.points; warnings = []; ends = none }))
+      ≡ (cross_section m (get_or lanes 0 0) (end_of (lane_centerline m (get_or lanes 0 0))) lanes >>= λ x. done (record { points = x.points; warnings = []; ends = None }))
   pub room : Roomy a.line
 
 -- whatever follows a plan and its anchor

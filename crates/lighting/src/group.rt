@@ -1,6 +1,6 @@
 // The light that a new one joins, and the choice of a line.
 ghost use Rattle.std.specs.Prelude.{◌≡◌, ◌<◌, length};
-ghost use Rattle.placing.specs.Answers.{checked, maybe_number};
+ghost use Rattle.placing.specs.Answers.{checked};
 ghost use Rattle.edit.specs.Light.{check_new};
 ghost use Rattle.store.specs.Layout.{SizedWords};
 ghost use Rattle.place.specs.Readable.{ReadableWords};
@@ -9,106 +9,110 @@ ghost use Rattle.lighting.specs.Group.{GroupRefused, GroupRead, ExistingChecked,
 use crate::rules::{existing_stop_line, stops_at};
 use crate::{GroupLine, LinePlan};
 use edit::StopLineChoice;
-use map::{Found, lookup};
+use map::lookup;
 use place::Placement;
-use placing::{Checked, MaybeNumber};
-use refusal::Refusal;
+use refusal::{GroupFault, RecordKind, Refusal};
+use store::Kind;
 
 fn refused_group(r: Refusal) -> GroupLine
     ensures { GroupRefused r result }
 {
     GroupLine {
-        checked: Checked::Refused(r),
-        line: MaybeNumber::Nothing,
+        checked: Err(r),
+        line: None,
     }
 }
 
 // The line of the light that is joined: one that is there, controls no crosswalks and is a light.
-pub fn group_line(words: &[u64], group: MaybeNumber) -> GroupLine
+pub fn group_line(words: &[u64], group: Option<u64>) -> GroupLine
     requires { ReadableWords words.now }
     ensures { GroupRead words.now group result }
 {
-    let MaybeNumber::At(g) = group else {
+    let Some(g) = group else {
         return GroupLine {
-            checked: Checked::Fine,
-            line: MaybeNumber::Nothing,
+            checked: Ok(()),
+            line: None,
         };
     };
-    let Found::At(i) = lookup::find(words, 5, g) else {
-        return refused_group(Refusal::Unknown(8, g));
+    let Some(i) = lookup::find(words, Kind::Rule, g) else {
+        return refused_group(Refusal::Unknown(RecordKind::Rule, g));
     };
-    if lookup::word(words, 5, i, 24) != 0 {
-        return refused_group(Refusal::WrongGroup(1));
+    if lookup::word(words, Kind::Rule, i, 24) != 0 {
+        return refused_group(Refusal::WrongGroup(GroupFault::ControlsCrosswalks));
     }
     let h = lookup::rule_head(words, i);
     if h.kind != 1 {
-        return refused_group(Refusal::WrongGroup(2));
+        return refused_group(Refusal::WrongGroup(GroupFault::NotALight));
     }
     GroupLine {
-        checked: Checked::Fine,
+        checked: Ok(()),
         line: stops_at(h),
     }
 }
 
 // A line that is there, and the group's where the group has one.
-fn check_existing(words: &[u64], group: MaybeNumber, s: u64) -> Checked
+fn check_existing(words: &[u64], group: Option<u64>, s: u64) -> Result<(), Refusal>
     requires { SizedWords words.now }
     ensures { ExistingChecked words.now group s result }
 {
-    let Found::At(_) = lookup::find(words, 2, s) else {
-        return Checked::Refused(Refusal::Unknown(5, s));
+    let Some(_) = lookup::find(words, Kind::StopLine, s) else {
+        return Err(Refusal::Unknown(RecordKind::StopLine, s));
     };
-    let MaybeNumber::At(g) = group else {
-        return Checked::Fine;
+    let Some(g) = group else {
+        return Ok(());
     };
     if g != s {
-        return Checked::Refused(Refusal::WrongGroup(3));
+        return Err(Refusal::WrongGroup(GroupFault::UsesAnotherLine));
     }
-    Checked::Fine
+    Ok(())
 }
 
 // A new line is turned down where the group has one.
-fn check_new(group: MaybeNumber) -> Checked
-    ensures { checked result ≡ check_new (maybe_number group) }
+fn check_new(group: Option<u64>) -> Result<(), Refusal>
+    ensures { checked result ≡ check_new group }
 {
-    let MaybeNumber::At(_) = group else {
-        return Checked::Fine;
+    let Some(_) = group else {
+        return Ok(());
     };
-    Checked::Refused(Refusal::WrongGroup(4))
+    Err(Refusal::WrongGroup(GroupFault::HasALine))
 }
 
-pub fn check_choice(words: &[u64], group: MaybeNumber, choice: StopLineChoice) -> Checked
+pub fn check_choice(
+    words: &[u64],
+    group: Option<u64>,
+    choice: StopLineChoice,
+) -> Result<(), Refusal>
     requires { SizedWords words.now }
     ensures { ChoiceChecked words.now group choice result }
 {
     match choice {
-        StopLineChoice::Automatic => Checked::Fine,
+        StopLineChoice::Automatic => Ok(()),
         StopLineChoice::New(_) => check_new(group),
-        StopLineChoice::NoLine => Checked::Fine,
+        StopLineChoice::NoLine => Ok(()),
         StopLineChoice::Existing(s) => check_existing(words, group, s),
     }
 }
 
 // The group's line, or one that a rule of the first lane names, or a new one at its end.
-fn automatic(words: &[u64], lane: u64, group: MaybeNumber) -> LinePlan
+fn automatic(words: &[u64], lane: u64, group: Option<u64>) -> LinePlan
     requires { ReadableWords words.now }
     ensures { AutoChosen words.now lane group result }
 {
-    if let MaybeNumber::At(g) = group {
+    if let Some(g) = group {
         return LinePlan::Use(g);
     }
     let u = existing_stop_line(words, lane);
-    if let MaybeNumber::At(s) = u {
+    if let Some(s) = u {
         return LinePlan::Use(s);
     }
     LinePlan::Draw(Placement::AtLaneEnd(0.0))
 }
 
 // The choice of no line: the group's, where it has one.
-fn own_plan(group: MaybeNumber) -> LinePlan
+fn own_plan(group: Option<u64>) -> LinePlan
     ensures { OwnChosen group result }
 {
-    let MaybeNumber::At(g) = group else {
+    let Some(g) = group else {
         return LinePlan::NoLine;
     };
     LinePlan::Use(g)
@@ -118,7 +122,7 @@ fn own_plan(group: MaybeNumber) -> LinePlan
 pub fn plan_for(
     words: &[u64],
     lanes: &[u64],
-    group: MaybeNumber,
+    group: Option<u64>,
     choice: StopLineChoice,
 ) -> LinePlan
     requires { ReadableWords words.now × (0 < length lanes.now) }

@@ -1,8 +1,6 @@
 // Where the signal goes: as given, or made up above the line.
-ghost use Rattle.std.specs.Prelude.{◌≡◌, true, cond, [], ◌∷◌, ◌/◌, ◌≤◌, length};
-ghost use Rattle.std.proofs.Math.Option.{none, some};
+ghost use Rattle.std.specs.Prelude.{◌≡◌, true, cond, [], ◌∷◌, ◌/◌, ◌≤◌, length, None, Some};
 ghost use Rattle.refusal.specs.Answer.{refused_as};
-ghost use Rattle.geometry.specs.Maybe.{maybe_point2, maybe_point3, maybe_nearest};
 ghost use Rattle.geometry.specs.Polyline.{point_at_fraction, direction_at, nearest_point};
 ghost use Rattle.centerline.specs.Line.{points_of};
 ghost use Rattle.place.specs.Values.{maybe_line, Roomy};
@@ -11,23 +9,23 @@ ghost use Rattle.lighting.specs.Housing.{HousingRead, housing_on};
 
 use crate::Housing;
 use centerline::Line;
-use geometry::point::{flat, perp, scale2};
-use geometry::{MaybeNearest, MaybePoint2, MaybePoint3, Point2, Point3};
+use geometry::point::{flat, perp};
+use geometry::vector::Vector;
+use geometry::{NearestPoint, Point2, Point3};
 use place::lines::copied;
 use place::section::nearest_of;
 use place::{CrossSection, MaybeLine};
-use placing::Checked;
 use placing::stop_line::across;
-use refusal::Refusal;
+use refusal::{PlaceFault, Refusal};
 
 const WIDTH: f64 = 1.2;
 
 const ELEVATION: f64 = 5.0;
 
 // The point at a fraction of a line.
-pub fn fraction_of(line: Line, t: f64) -> MaybePoint3
+pub fn fraction_of(line: Line, t: f64) -> Option<Point3>
     requires { Roomy line }
-    ensures { maybe_point3 result ≡ point_at_fraction (points_of line) t }
+    ensures { result ≡ point_at_fraction (points_of line) t }
 {
     let coords = line.coords;
     let e = line.count * 3;
@@ -35,28 +33,28 @@ pub fn fraction_of(line: Line, t: f64) -> MaybePoint3
 }
 
 // Which way a line runs at a station.
-fn direction_of(line: Line, s: f64) -> MaybePoint2
+fn direction_of(line: Line, s: f64) -> Option<Point2>
     requires { Roomy line }
-    ensures { maybe_point2 result ≡ direction_at (points_of line) s }
+    ensures { result ≡ direction_at (points_of line) s }
 {
     let coords = line.coords;
     let e = line.count * 3;
     polyline::direction::direction_at(&coords[..e], s)
 }
 
-fn station_of(n: MaybeNearest) -> f64
-    ensures { result ≡ station_of (maybe_nearest n) }
+fn station_of(n: Option<NearestPoint>) -> f64
+    ensures { result ≡ station_of n }
 {
-    let MaybeNearest::At(p) = n else {
+    let Some(p) = n else {
         return 0.0;
     };
     p.station
 }
 
 // Which way a line runs where it is nearest to a point.
-fn direction_near(line: Line, p: Point2) -> MaybePoint2
+fn direction_near(line: Line, p: Point2) -> Option<Point2>
     requires { Roomy line }
-    ensures { maybe_point2 result ≡ direction_at (points_of line) (station_of (nearest_point (points_of line) p)) }
+    ensures { result ≡ direction_at (points_of line) (station_of (nearest_point (points_of line) p)) }
 {
     let s = station_of(nearest_of(line, p));
     direction_of(line, s)
@@ -66,7 +64,7 @@ fn direction_near(line: Line, p: Point2) -> MaybePoint2
 fn housing_at(mid: Point3, dir: Point2) -> CrossSection
     ensures { result.left ∷ result.right ∷ [] ≡ housing_at mid dir }
 {
-    let side = scale2(perp(dir), WIDTH / 2.0);
+    let side = perp(dir).scale(WIDTH / 2.0);
     let z = mid.z + ELEVATION;
     let left = Point3 {
         x: mid.x + side.x,
@@ -85,7 +83,7 @@ fn no_housing(r: Refusal) -> Housing
     ensures { HousingRead (refused_as r) result }
 {
     Housing {
-        checked: Checked::Refused(r),
+        checked: Err(r),
         line: centerline::empty(),
         synthesized: false,
     }
@@ -94,20 +92,20 @@ fn no_housing(r: Refusal) -> Housing
 // Above the middle of the line, across the first lane.
 fn synthesize(center: MaybeLine, anchor: Line) -> Housing
     requires { Roomy center.line × Roomy anchor }
-    ensures { HousingRead (housing_on (maybe_line center) (points_of anchor) none) result }
+    ensures { HousingRead (housing_on (maybe_line center) (points_of anchor) None) result }
 {
-    let MaybePoint3::At(mid) = fraction_of(anchor, 0.5) else {
-        return no_housing(Refusal::NoPlace(6));
+    let Some(mid) = fraction_of(anchor, 0.5) else {
+        return no_housing(Refusal::NoPlace(PlaceFault::EmptyStopLine));
     };
     if !center.there {
-        return no_housing(Refusal::NoPlace(1));
+        return no_housing(Refusal::NoPlace(PlaceFault::NoLaneGeometry));
     }
     let line = center.line;
-    let MaybePoint2::At(dir) = direction_near(line, flat(mid)) else {
-        return no_housing(Refusal::NoPlace(3));
+    let Some(dir) = direction_near(line, flat(mid)) else {
+        return no_housing(Refusal::NoPlace(PlaceFault::DegenerateCenterline));
     };
     Housing {
-        checked: Checked::Fine,
+        checked: Ok(()),
         line: across(housing_at(mid, dir)),
         synthesized: true,
     }
@@ -116,11 +114,11 @@ fn synthesize(center: MaybeLine, anchor: Line) -> Housing
 // The housing as given, or made up.
 pub fn housing_for(center: MaybeLine, anchor: Line, given: bool, cs: &[f64]) -> Housing
     requires { Roomy center.line × Roomy anchor × (given ≡ true → length cs.now / 3 ≤ 64) }
-    ensures { HousingRead (housing_on (maybe_line center) (points_of anchor) (cond given (some cs.now) none)) result }
+    ensures { HousingRead (housing_on (maybe_line center) (points_of anchor) (cond given (Some cs.now) None)) result }
 {
     if given {
         return Housing {
-            checked: Checked::Fine,
+            checked: Ok(()),
             line: copied(cs),
             synthesized: false,
         };

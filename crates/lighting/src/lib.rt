@@ -2,8 +2,8 @@
 #![tactic(auto)]
 
 use centerline::Line;
-use place::{MaybeEnds, Placement};
-use placing::{Checked, MaybeNumber};
+use place::{Placement, SectionNames};
+use refusal::Refusal;
 
 pub mod rules; // rules.rt: the lines that rules name
 pub mod group; // group.rt: the light that is joined, and the choice of a line
@@ -21,21 +21,21 @@ pub enum LinePlan {
 // The line of the light that is joined, where the check is fine.
 #[derive(Drop)]
 pub struct GroupLine {
-    pub checked: Checked,
-    pub line: MaybeNumber,
+    pub checked: Result<(), Refusal>,
+    pub line: Option<u64>,
 }
 
 // What was chosen, where the check is fine.
 #[derive(Drop)]
 pub struct ChosenLine {
-    pub checked: Checked,
+    pub checked: Result<(), Refusal>,
     pub plan: LinePlan,
 }
 
 // A signal's lower edge, where the check is fine, and whether it was made up.
 #[derive(Drop)]
 pub struct Housing {
-    pub checked: Checked,
+    pub checked: Result<(), Refusal>,
     pub line: Line,
     pub synthesized: bool,
 }
@@ -44,11 +44,11 @@ pub struct Housing {
 // and what its ends are called, and the housing.
 #[derive(Drop)]
 pub struct LightPlan {
-    pub checked: Checked,
+    pub checked: Result<(), Refusal>,
     pub plan: LinePlan,
     pub line: Line,
     pub clamped: bool,
-    pub ends: MaybeEnds,
+    pub ends: Option<SectionNames>,
     pub housing: Line,
     pub synthesized: bool,
 }

@@ -1,6 +1,5 @@
 // All that a light's call tests, and where its line and its signal go.
-ghost use Rattle.std.specs.Prelude.{◌≡◌, true, not, ◌||◌, cond, [], ◌/◌, ◌≤◌, ◌<◌, length, get_or};
-ghost use Rattle.std.proofs.Math.Option.{none, some};
+ghost use Rattle.std.specs.Prelude.{◌≡◌, true, not, ◌||◌, cond, [], ◌/◌, ◌≤◌, ◌<◌, length, get_or, None, Some};
 ghost use Rattle.map.specs.Tables.{map_of};
 ghost use Rattle.place.specs.Readable.{ReadableWords, Readable};
 ghost use Rattle.place.specs.Values.{Roomy};
@@ -14,14 +13,15 @@ use crate::housings::housing_for;
 use crate::{ChosenLine, LightPlan, LinePlan};
 use edit::{Height, SignalRequest};
 use geometry::double::is_finite;
-use map::{Found, lookup};
+use map::lookup;
+use place::MaybeLine;
 use place::lines::{absent, copied, lane_centerline};
 use place::section::cross_section;
-use place::{MaybeEnds, MaybeLine, MaybeSection};
+use placing::PlacedLine;
 use placing::checks::{check_lane_list, check_polyline};
 use placing::stop_line::{across, place_with, refused_line};
-use placing::{Checked, PlacedLine};
-use refusal::Refusal;
+use refusal::{Measure, PlaceFault, RecordKind, Refusal};
+use store::Kind;
 
 // A height that is given must be finite and above 0.
 fn bad_height(h: Height) -> bool
@@ -36,20 +36,20 @@ fn bad_height(h: Height) -> bool
     !(0.0 < x)
 }
 
-fn check_housing(given: bool, cs: &[f64]) -> Checked
-    ensures { checked result ≡ check_housing (cond given (some cs.now) none) }
+fn check_housing(given: bool, cs: &[f64]) -> Result<(), Refusal>
+    ensures { checked result ≡ check_housing (cond given (Some cs.now) None) }
 {
     if given {
         return check_polyline(cs);
     }
-    Checked::Fine
+    Ok(())
 }
 
 fn refused_choice(r: Refusal) -> ChosenLine
-    ensures { result.checked ≡ Checked.Refused r }
+    ensures { result.checked ≡ Err r }
 {
     ChosenLine {
-        checked: Checked::Refused(r),
+        checked: Err(r),
         plan: LinePlan::NoLine,
     }
 }
@@ -60,31 +60,31 @@ fn choose(words: &[u64], lanes: &[u64], q: SignalRequest, housing: &[f64]) -> Ch
     ensures { ChoiceMade words.now lanes.now q housing.now result }
 {
     let listed = check_lane_list(words, lanes);
-    if let Checked::Refused(r) = listed {
+    if let Err(r) = listed {
         return refused_choice(r);
     }
     let height = q.height;
     if bad_height(height) {
-        return refused_choice(Refusal::BadMeasure(1));
+        return refused_choice(Refusal::BadMeasure(Measure::Height));
     }
     let shape = check_housing(q.housing_given, housing);
-    if let Checked::Refused(r) = shape {
+    if let Err(r) = shape {
         return refused_choice(r);
     }
     let group = q.group;
     let g = group_line(words, group);
     let joined = g.checked;
-    if let Checked::Refused(r) = joined {
+    if let Err(r) = joined {
         return refused_choice(r);
     }
     let line = g.line;
     let choice = q.choice;
     let chosen = check_choice(words, line, choice);
-    if let Checked::Refused(r) = chosen {
+    if let Err(r) = chosen {
         return refused_choice(r);
     }
     ChosenLine {
-        checked: Checked::Fine,
+        checked: Ok(()),
         plan: plan_for(words, lanes, line, choice),
     }
 }
@@ -113,15 +113,15 @@ fn stored_line(words: &[u64], coords: &[f64], s: u64) -> PlacedLine
     requires { Readable words.now coords.now }
     ensures { StoredRead (map_of words.now coords.now) s result }
 {
-    let Found::At(i) = lookup::find(words, 2, s) else {
-        return refused_line(Refusal::Unknown(5, s));
+    let Some(i) = lookup::find(words, Kind::StopLine, s) else {
+        return refused_line(Refusal::Unknown(RecordKind::StopLine, s));
     };
-    let n = rows::index(lookup::word(words, 2, i, 1));
+    let n = rows::index(lookup::word(words, Kind::StopLine, i, 1));
     PlacedLine {
-        checked: Checked::Fine,
-        line: copied(lookup::points(coords, 2, i, 0, n)),
+        checked: Ok(()),
+        line: copied(lookup::points(coords, Kind::StopLine, i, 0, n)),
         clamped: false,
-        ends: MaybeEnds::Nothing,
+        ends: None,
     }
 }
 
@@ -131,19 +131,19 @@ fn end_line(words: &[u64], coords: &[f64], center: MaybeLine, lanes: &[u64]) -> 
     ensures { EndRead (map_of words.now coords.now) lanes.now result }
 {
     if !center.there {
-        return refused_line(Refusal::NoPlace(1));
+        return refused_line(Refusal::NoPlace(PlaceFault::NoLaneGeometry));
     }
     let line = center.line;
     let cs = line.coords;
     let e = line.count * 3;
     let part = &cs[..e];
     match cross_section(words, coords, part, polyline::length::length(part), lanes) {
-        MaybeSection::Refused(r) => refused_line(r),
-        MaybeSection::At(s, _) => PlacedLine {
-            checked: Checked::Fine,
+        Err(r) => refused_line(r),
+        Ok((s, _)) => PlacedLine {
+            checked: Ok(()),
             line: across(s),
             clamped: false,
-            ends: MaybeEnds::Nothing,
+            ends: None,
         },
     }
 }
@@ -168,14 +168,14 @@ fn anchor_for(
 }
 
 fn refused_plan(r: Refusal) -> LightPlan
-    ensures { (result.checked ≡ Checked.Refused r) × Roomy result.line × Roomy result.housing }
+    ensures { (result.checked ≡ Err r) × Roomy result.line × Roomy result.housing }
 {
     LightPlan {
-        checked: Checked::Refused(r),
+        checked: Err(r),
         plan: LinePlan::NoLine,
         line: centerline::empty(),
         clamped: false,
-        ends: MaybeEnds::Nothing,
+        ends: None,
         housing: centerline::empty(),
         synthesized: false,
     }
@@ -190,10 +190,10 @@ fn with_housing(
     cs: &[f64],
 ) -> LightPlan
     requires { Roomy center.line × Roomy a.line × (given ≡ true → length cs.now / 3 ≤ 64) }
-    ensures { Anchored center plan a (cond given (some cs.now) none) result }
+    ensures { Anchored center plan a (cond given (Some cs.now) None) result }
 {
     let placed = a.checked;
-    if let Checked::Refused(r) = placed {
+    if let Err(r) = placed {
         return refused_plan(r);
     }
     let line = a.line;
@@ -223,7 +223,7 @@ fn place_light(
     housing: &[f64],
 ) -> LightPlan
     requires { Readable words.now coords.now × (0 < length lanes.now) × (given ≡ true → length housing.now / 3 ≤ 64) }
-    ensures { LightRead lanes.now (planned_as (map_of words.now coords.now) lanes.now plan points.now (cond given (some housing.now) none)) result }
+    ensures { LightRead lanes.now (planned_as (map_of words.now coords.now) lanes.now plan points.now (cond given (Some housing.now) None)) result }
 {
     let center = center_for(words, coords, lanes, plan, given);
     let a = anchor_for(words, coords, center, lanes, plan, points);
@@ -244,7 +244,7 @@ pub fn light_plan(
 {
     let c = choose(words, lanes, q, housing);
     let chosen = c.checked;
-    if let Checked::Refused(r) = chosen {
+    if let Err(r) = chosen {
         return refused_plan(r);
     }
     let plan = c.plan;

@@ -2,61 +2,52 @@
 ghost use Rattle.std.specs.Prelude.{◌≡◌, ◌<◌};
 ghost use Rattle.store.specs.Layout.{count_of};
 ghost use Rattle.place.specs.Readable.{ReadableWords};
-ghost use Rattle.placing.specs.Answers.{maybe_number};
 ghost use Rattle.lighting.specs.RuleLines.{head_line, LineOn, LineFound};
 
 use map::{RuleHead, lookup};
-use placing::MaybeNumber;
 use placing::lists::member;
+use store::Kind;
 
 // The line of a light, a sign or a marking.
-pub fn stops_at(h: RuleHead) -> MaybeNumber
-    ensures { maybe_number result ≡ head_line h }
+pub fn stops_at(h: RuleHead) -> Option<u64>
+    ensures { result ≡ head_line h }
 {
     if h.kind == 3 {
-        return MaybeNumber::At(h.line);
+        return Some(h.line);
     }
     if h.kind == 1 {
-        return if h.has_line {
-            MaybeNumber::At(h.line)
-        } else {
-            MaybeNumber::Nothing
-        };
+        return if h.has_line { Some(h.line) } else { None };
     }
     if h.kind == 2 {
-        return if h.has_line {
-            MaybeNumber::At(h.line)
-        } else {
-            MaybeNumber::Nothing
-        };
+        return if h.has_line { Some(h.line) } else { None };
     }
-    MaybeNumber::Nothing
+    None
 }
 
 // The line that rule i gives a lane.
-fn line_on(words: &[u64], i: usize, lane: u64) -> MaybeNumber
+fn line_on(words: &[u64], i: usize, lane: u64) -> Option<u64>
     requires { ReadableWords words.now × (i < count_of words.now 5) }
     ensures { LineOn words.now i lane result }
 {
     if member(lookup::rule_list(words, i, 7), 0, lane) {
         return stops_at(lookup::rule_head(words, i));
     }
-    MaybeNumber::Nothing
+    None
 }
 
 // The line of the first rule that lists the lane and has one: a light, a sign of any type or a marking.
-pub fn existing_stop_line(words: &[u64], lane: u64) -> MaybeNumber
+pub fn existing_stop_line(words: &[u64], lane: u64) -> Option<u64>
     requires { ReadableWords words.now }
     ensures { LineFound words.now lane result }
 {
-    let n = store::count(words, 5);
+    let n = store::count(words, Kind::Rule);
     let mut i = 0;
     while i < n {
         let u = line_on(words, i, lane);
-        if let MaybeNumber::At(l) = u {
-            return MaybeNumber::At(l);
+        if let Some(l) = u {
+            return Some(l);
         }
         i += 1;
     }
-    MaybeNumber::Nothing
+    None
 }

@@ -2,7 +2,7 @@
 use Prim.Native.Nat.{ℕ, zero, suc, ◌+◌, ◌≤◌, ◌<◌}
 use mathlib.Core.Path.{◌≡◌, refl, sym, ap, ◌∙◌}
 use mathlib.Core.Bool.{Bool, true, false, not, ◌&&◌, cond}
-use mathlib.Core.Option.{none, some}
+use Rattle.std.specs.Prelude.{None, Some, Err, Ok, Result}
 use mathlib.Core.List.{List, [], ◌∷◌}
 use native.Mathlib.Numerals.{add-one}
 use native.Mathlib.Omega.{arith}
@@ -13,6 +13,7 @@ use lib.Seq.{drop-cons}
 use borrow.Author.Tests.{eq-eqb, ne_eqb, le-leb, lt-leb}
 use Rattle.refusal.specs.Answer.{refused}
 use Rattle.refusal.specs.declared.Refusal.TheVariants.{WrongLink}
+use Rattle.refusal.specs.declared.LinkFault.TheVariants as link_fault
 use Rattle.rows.specs.Lists.{same_list}
 use Rattle.rows.proofs.SameLists.{list_same, list_differs}
 use Rattle.store.specs.Layout.{count_of, row_of, coords_of}
@@ -23,10 +24,9 @@ use Rattle.map.specs.Access.{HeadRead}
 use Rattle.map.proofs.SoundLaws.{Sound, lanes_few, controlled_few, signals_few, lines_few}
 use Rattle.map.proofs.UpdateLaws.{rule_limit}
 use Rattle.edit.specs.Links.{first_entry, to_list, stop_lines_of, same_links}
-use Rattle.placing.specs.declared.Checked.{Checked}
-use Rattle.placing.specs.declared.Checked.TheVariants.{Fine, Refused}
 use Rattle.linking.specs.LightLinks.{LightChecked}
 use Rattle.link_plan.specs.LinkPlan.{LinkWords, rule_checks, linked_body, RuleChecked, links_fit, same_head_line, SameLines, SameRead}
+use Rattle.refusal.specs.declared.Refusal.{Refusal}
 
 pub link_words : (ws : List ℕ) (cs : List Float) → Sound ws cs → (i : ℕ) → i < count_of ws 5 → LinkWords ws i
 link_words ws cs ok i here = record {
@@ -69,21 +69,21 @@ module _ (ws : List ℕ) (i l c : ℕ) (lines : List ℕ) (h : RuleHead) (read :
   kind_is : (k : ℕ) → h.kind ≡ k → get_or (row_of ws 5 i) 1 0 ≡ k
   kind_is k e = sym read.kind ∙ e
 
-  pub light_checked : h.kind ≡ 1 → (signals : List ℕ) → signals ≡ list_at (row_of ws 5 i) 41 → (r : Checked) → LightChecked ws signals l c (length lines) r → RuleChecked ws i l c lines r
+  pub light_checked : h.kind ≡ 1 → (signals : List ℕ) → signals ≡ list_at (row_of ws 5 i) 41 → (r : Result (Unit {0}) Refusal) → LightChecked ws signals l c (length lines) r → RuleChecked ws i l c lines r
   unfolding rule_in rule_checks
   light_checked k signals e r f = record { answer = λ cs. rw (kind_is 1 k, ← e) (f.answer cs) }
 
   module _ (k : h.kind ≡ 5) where
-    pub crossing_linked : (c ≡ 0 → ⊥) → RuleChecked ws i l c lines (Refused (WrongLink 6))
+    pub crossing_linked : (c ≡ 0 → ⊥) → RuleChecked ws i l c lines (Err (WrongLink link_fault.CrossingWithCrosswalks))
     unfolding rule_in rule_checks
     crossing_linked n = record { answer = λ cs. rw (kind_is 5 k, ne_eqb c 0 n) }
 
-    pub crossing_fine : c ≡ 0 → RuleChecked ws i l c lines Fine
+    pub crossing_fine : c ≡ 0 → RuleChecked ws i l c lines (Ok tt)
     unfolding rule_in rule_checks
     crossing_fine z = record { answer = λ cs. rw (kind_is 5 k, eq-eqb c 0 z) }
 
   module _ (k : h.kind ≡ 3) where
-    pub marking_linked : (c ≡ 0 → ⊥) → RuleChecked ws i l c lines (Refused (WrongLink 7))
+    pub marking_linked : (c ≡ 0 → ⊥) → RuleChecked ws i l c lines (Err (WrongLink link_fault.MarkingWithOthers))
     unfolding rule_in rule_checks
     marking_linked n = record { answer = λ cs. rw (kind_is 3 k, ne_eqb c 0 n) }
 
@@ -91,11 +91,11 @@ module _ (ws : List ℕ) (i l c : ℕ) (lines : List ℕ) (h : RuleHead) (read :
       its_line : same_list lines (get_or (row_of ws 5 i) 4 0 ∷ []) ≡ b
       its_line = ap (λ (x : ℕ). same_list lines (x ∷ [])) (sym read.line) ∙ sym e
 
-      pub marking_moved : b ≡ false → RuleChecked ws i l c lines (Refused (WrongLink 7))
+      pub marking_moved : b ≡ false → RuleChecked ws i l c lines (Err (WrongLink link_fault.MarkingWithOthers))
       unfolding rule_in rule_checks
       marking_moved t = record { answer = λ cs. rw (kind_is 3 k, eq-eqb c 0 z, its_line, t) }
 
-      pub marking_fine : b ≡ true → RuleChecked ws i l c lines Fine
+      pub marking_fine : b ≡ true → RuleChecked ws i l c lines (Ok tt)
       unfolding rule_in rule_checks
       marking_fine t = record { answer = λ cs. rw (kind_is 3 k, eq-eqb c 0 z, its_line, t) }
 
@@ -110,7 +110,7 @@ module _ (ws : List ℕ) (i l c : ℕ) (lines : List ℕ) (h : RuleHead) (read :
   by_kind m (suc (suc (suc (suc (suc (suc zero)))))) r d a b e = refl
   by_kind m (suc (suc (suc (suc (suc (suc (suc k))))))) r d a b e = refl
 
-  pub others_refused : (h.kind ≡ 1 → ⊥) → (h.kind ≡ 5 → ⊥) → (h.kind ≡ 3 → ⊥) → RuleChecked ws i l c lines (Refused (WrongLink 8))
+  pub others_refused : (h.kind ≡ 1 → ⊥) → (h.kind ≡ 5 → ⊥) → (h.kind ≡ 3 → ⊥) → RuleChecked ws i l c lines (Err (WrongLink link_fault.OtherRule))
   unfolding rule_in
   others_refused a b e = record {
     answer = λ cs. by_kind (map_of ws cs) (get_or (row_of ws 5 i) 1 0) (row_of ws 5 i) (coords_of cs 5 i) (λ q. a (read.kind ∙ q)) (λ q. b (read.kind ∙ q)) (λ q. e (read.kind ∙ q));
@@ -166,7 +166,7 @@ module _ (h : RuleHead) where
   unfolding same_head_line same_list to_list first_entry
   no_line [] e = go h.has_line
     where
-      go : (b : Bool) → not b ≡ same_list (to_list (cond b (some h.line) none)) []
+      go : (b : Bool) → not b ≡ same_list (to_list (cond b (Some h.line) None)) []
       go true = refl
       go false = refl
   no_line (x ∷ xs) e = absurd (let z : ⊥ = omega arith in z)

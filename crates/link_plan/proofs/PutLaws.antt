@@ -2,7 +2,7 @@
 use Prim.Native.Nat.{ℕ, zero, suc, ◌+◌, ◌≤◌, ◌<◌}
 use mathlib.Core.Path.{◌≡◌, refl, sym, ap, ◌∙◌}
 use mathlib.Core.Bool.{not, cond}
-use mathlib.Core.Option.{Option, none, some}
+use Rattle.std.specs.Prelude.{Option, None, Some}
 use mathlib.Core.List.{List, [], ◌∷◌}
 use native.Mathlib.Omega.{arith}
 use lib.Dec.{eqb}
@@ -61,15 +61,15 @@ module _ (ws : List ℕ) (i : ℕ) (ok : LinkWords ws i) (lines : List ℕ) wher
       unfolding rule_in linked_body
       light_body c o e = rw (light_kind, e)
 
-      light_lined : (flag line : ℕ) → cond (not (eqb flag 0)) (some line) none ≡ first_entry lines → (c : List Float) → rule_in (with_rule_line (row_of ws 5 i) flag line) c ≡ lined c
+      light_lined : (flag line : ℕ) → cond (not (eqb flag 0)) (Some line) None ≡ first_entry lines → (c : List Float) → rule_in (with_rule_line (row_of ws 5 i) flag line) c ≡ lined c
       light_lined flag line e c = with_line_lem (row_of ws 5 i) long c flag line light_kind ∙ light_body c _ e
 
-      first_is : (xs : List ℕ) → (length xs ≡ 0 → ⊥) → some (get_or xs 0 0) ≡ first_entry xs
+      first_is : (xs : List ℕ) → (length xs ≡ 0 → ⊥) → Some (get_or xs 0 0) ≡ first_entry xs
       unfolding first_entry
       first_is [] n = absurd (n refl)
       first_is (x ∷ xs) n = refl
 
-      none_is : (xs : List ℕ) → length xs ≡ 0 → none ≡ first_entry xs
+      none_is : (xs : List ℕ) → length xs ≡ 0 → None ≡ first_entry xs
       unfolding first_entry
       none_is [] e = refl
       none_is (x ∷ xs) e = absurd (let z : ⊥ = omega arith in z)

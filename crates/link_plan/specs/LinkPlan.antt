@@ -1,6 +1,5 @@
 -- The rule of `set_regulatory_links` in the parts that one function answers: its checks, whether it changes, and its row.
-use Rattle.std.specs.Prelude.{ℕ, ◌≤◌, ◌<◌, ◌≡◌, Bool, true, not, ◌&&◌, cond, List, [], ◌∷◌, eqb, leb, Float, length, get_or, set}
-use Rattle.std.proofs.Math.Option.{none, some}
+use Rattle.std.specs.Prelude.{ℕ, ◌≤◌, ◌<◌, ◌≡◌, Bool, true, not, ◌&&◌, cond, List, [], ◌∷◌, eqb, leb, Float, length, get_or, set, None, Some, Result}
 use Rattle.refusal.specs.Answer.{Answer, refused, refuse_when}
 use Rattle.rows.specs.Lists.{same_list}
 use Rattle.store.specs.Layout.{SizedWords, count_of, row_of, coords_of, all_coords}
@@ -10,9 +9,9 @@ use Rattle.map.specs.Rows.{rule_with, with_rules}
 use Rattle.map.specs.Tables.{rule_in, map_of}
 use Rattle.map.specs.Updates.{RulePut}
 use Rattle.edit.specs.Links.{first_entry, to_list, stop_lines_of, same_links}
-use Rattle.placing.specs.declared.Checked.{Checked}
 use Rattle.placing.specs.Answers.{checked}
 use Rattle.linking.specs.LightLinks.{light_checks}
+use Rattle.refusal.specs.declared.Refusal.{Refusal}
 
 -- rule i is there, and its lists are short
 pub record LinkWords (ws : List ℕ) (i : ℕ) : Type 0 where
@@ -48,7 +47,7 @@ linked_rule r lanes crosswalks lines = rule_with r (linked_body r.body lines) la
 abbrev pub rule_at : List ℕ → List Float → ℕ → Rule
 rule_at ws cs i = rule_in (row_of ws 5 i) (coords_of cs 5 i)
 
-pub record RuleChecked (ws : List ℕ) (i l c : ℕ) (lines : List ℕ) (r : Checked) : Type 0 where
+pub record RuleChecked (ws : List ℕ) (i l c : ℕ) (lines : List ℕ) (r : Result (Unit {0}) Refusal) : Type 0 where
   pub answer : (cs : List Float) → checked r ≡ rule_checks (map_of ws cs) (rule_at ws cs i).body l c lines
 
 -- room for so many lanes, crosswalks and lines, by the rule's kind
@@ -58,7 +57,7 @@ links_fit kind l c s = leb l 16 && leb c 16 && cond (eqb kind 5) (leb s 16) true
 -- ---- whether it changes
 
 unfoldable pub same_head_line : RuleHead → List ℕ → Bool
-same_head_line h lines = same_list (to_list (cond h.has_line (some h.line) none)) (to_list (first_entry lines))
+same_head_line h lines = same_list (to_list (cond h.has_line (Some h.line) None)) (to_list (first_entry lines))
 
 pub record SameLines (ws : List ℕ) (i : ℕ) (lines : List ℕ) (r : Bool) : Type 0 where
   pub answer : (cs : List Float) → r ≡ same_list (stop_lines_of (rule_at ws cs i).body) (stop_lines_of (linked_body (rule_at ws cs i).body lines))

@@ -6,8 +6,7 @@ ghost use Rattle.link_plan.specs.LinkPlan.{LinkWords, RuleChecked, links_fit};
 
 use linking::light::check_light;
 use map::lookup;
-use placing::Checked;
-use refusal::Refusal;
+use refusal::{LinkFault, Refusal};
 
 // Whether the list is the one line.
 fn is_line(lines: &[u64], line: u64) -> bool
@@ -26,7 +25,7 @@ pub fn check_rule(
     lanes: usize,
     crosswalks: usize,
     lines: &[u64],
-) -> Checked
+) -> Result<(), Refusal>
     requires { LinkWords words.now i }
     ensures { RuleChecked words.now i lanes crosswalks lines.now result }
 {
@@ -37,20 +36,20 @@ pub fn check_rule(
     }
     if h.kind == 5 {
         if crosswalks != 0 {
-            return Checked::Refused(Refusal::WrongLink(6));
+            return Err(Refusal::WrongLink(LinkFault::CrossingWithCrosswalks));
         }
-        return Checked::Fine;
+        return Ok(());
     }
     if h.kind == 3 {
         if crosswalks != 0 {
-            return Checked::Refused(Refusal::WrongLink(7));
+            return Err(Refusal::WrongLink(LinkFault::MarkingWithOthers));
         }
         if is_line(lines, h.line) {
-            return Checked::Fine;
+            return Ok(());
         }
-        return Checked::Refused(Refusal::WrongLink(7));
+        return Err(Refusal::WrongLink(LinkFault::MarkingWithOthers));
     }
-    Checked::Refused(Refusal::WrongLink(8))
+    Err(Refusal::WrongLink(LinkFault::OtherRule))
 }
 
 // Whether the rule's lists keep below the ceiling. A light has its line, and a marking, beside them.

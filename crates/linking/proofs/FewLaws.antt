@@ -2,7 +2,7 @@
 use Prim.Native.Nat.{ℕ, suc, ◌≤◌, compare, Ordering}
 use mathlib.Core.Path.{◌≡◌, refl, sym, ap, ◌∙◌}
 use mathlib.Core.Bool.{Bool, true, false, ◌&&◌, ◌||◌, cond}
-use mathlib.Core.Option.{Option, none, some}
+use Rattle.std.specs.Prelude.{Option, None, Some}
 use mathlib.Core.List.{List, [], ◌∷◌}
 use native.Mathlib.Omega.{arith}
 use lib.Dec.{eqb, ltb, leb}
@@ -86,12 +86,12 @@ module _ {A : Type 0} (num : A → ℕ) where
           let b = g (past_first t ts (y ∷ ys) a h) in
           omega arith
 
-  all_held : (ts : List A) (ys : List ℕ) → unknown_in num ts ys ≡ none → every (λ y. holds num y ts) ys ≡ true
+  all_held : (ts : List A) (ys : List ℕ) → unknown_in num ts ys ≡ None → every (λ y. holds num y ts) ys ≡ true
   unfolding unknown_in first_of every
   all_held ts [] e = refl
   all_held ts (y ∷ ys) e = go (holds num y ts) e (λ p. all_held ts ys p)
     where
-      go : (b : Bool) → or_else (cond b none (some y)) (unknown_in num ts ys) ≡ none → (unknown_in num ts ys ≡ none → every (λ y. holds num y ts) ys ≡ true) → (b && every (λ y. holds num y ts) ys) ≡ true
+      go : (b : Bool) → or_else (cond b None (Some y)) (unknown_in num ts ys) ≡ None → (unknown_in num ts ys ≡ None → every (λ y. holds num y ts) ys ≡ true) → (b && every (λ y. holds num y ts) ys) ≡ true
       go true e f = f e
       go false e f = let z : ◌≡◌ {A = ℕ} 0 1 = cc in absurd (let w : ⊥ = omega arith in w)
 
@@ -113,7 +113,7 @@ length_once [] e = refl
 length_once (x ∷ xs) e =
     length_new x (sorted xs) (member_sorted x xs ∙ (either (member x xs) (twice xs) e).0) ∙ ap suc (length_once xs (either (member x xs) (twice xs) e).1)
 
-pub known_few : {A : Type 0} (num : A → ℕ) (low high : ℕ) (ts : List A) → rising num low high ts ≡ true → (xs : List ℕ) → unknown_in num ts (sorted xs) ≡ none → twice xs ≡ false → length xs ≤ length ts
+pub known_few : {A : Type 0} (num : A → ℕ) (low high : ℕ) (ts : List A) → rising num low high ts ≡ true → (xs : List ℕ) → unknown_in num ts (sorted xs) ≡ None → twice xs ≡ false → length xs ≤ length ts
 known_few num low high ts r xs e t =
     omega (arith, length_once xs t, held_few num low high ts r (sorted xs) (sorted_up xs) (all_held num ts (sorted xs) e))
 
@@ -131,17 +131,17 @@ when_done : (t : Bool) (n : ℕ) (ds : List ℕ) → refuse_when t n ds ≡ done
 when_done true n ds e = let z : ◌≡◌ {A = ℕ} 0 1 = cc in absurd (let w : ⊥ = omega arith in w)
 when_done false n ds e = refl
 
-found_done : (o : Option ℕ) (k : ℕ) → refuse_found o k ≡ done tt → o ≡ none
-found_done none k e = refl
-found_done (some n) k e = let z : ◌≡◌ {A = ℕ} 0 1 = cc in absurd (let w : ⊥ = omega arith in w)
+found_done : (o : Option ℕ) (k : ℕ) → refuse_found o k ≡ done tt → o ≡ None
+found_done None k e = refl
+found_done (Some n) k e = let z : ◌≡◌ {A = ℕ} 0 1 = cc in absurd (let w : ⊥ = omega arith in w)
 
 pub record Passed (m : Map) (lanes crosswalks lines : List ℕ) : Type 0 where
   pub lanes_once : twice lanes ≡ false
   pub crosswalks_once : twice crosswalks ≡ false
   pub lines_once : twice lines ≡ false
-  pub lanes_known : unknown_in (λ (x : Lane). x.num) m.lanes (sorted lanes) ≡ none
-  pub crosswalks_known : unknown_in (λ (x : Crosswalk). x.num) m.crosswalks (sorted crosswalks) ≡ none
-  pub lines_known : unknown_in (λ (x : LineString). x.num) m.stop_lines (sorted lines) ≡ none
+  pub lanes_known : unknown_in (λ (x : Lane). x.num) m.lanes (sorted lanes) ≡ None
+  pub crosswalks_known : unknown_in (λ (x : Crosswalk). x.num) m.crosswalks (sorted crosswalks) ≡ None
+  pub lines_known : unknown_in (λ (x : LineString). x.num) m.stop_lines (sorted lines) ≡ None
 
 pub passed : (m : Map) (lanes crosswalks lines : List ℕ) → list_checks m lanes crosswalks lines ≡ done tt → Passed m lanes crosswalks lines
 unfolding list_checks twice_checks

@@ -2,7 +2,7 @@
 use Prim.Native.Nat.{ℕ, ◌≤◌, ◌<◌}
 use mathlib.Core.Path.{◌≡◌, refl, sym}
 use mathlib.Core.Bool.{Bool, true, false, not, ◌&&◌}
-use mathlib.Core.Option.{Option}
+use Rattle.std.specs.Prelude.{Option, Err, Result, Ok}
 use mathlib.Core.List.{List, [], ◌∷◌}
 use native.Mathlib.Omega.{arith}
 use lib.Dec.{eqb, ltb}
@@ -10,17 +10,16 @@ use lib.ListN.{length}
 use borrow.Author.Tests.{eq-eqb, ne_eqb, lt-ltb, le-ltb}
 use Rattle.refusal.specs.Answer.{Answer, refused, done, ◌>>=◌, ◌>>◌, refuse_when}
 use Rattle.refusal.specs.declared.Refusal.TheVariants.{Unknown, WrongLink}
+use Rattle.refusal.specs.declared.LinkFault.TheVariants as link_fault
+use Rattle.refusal.specs.declared.RecordKind.TheVariants as record_kind
 use Rattle.rows.specs.Lists.{no_entries}
 use Rattle.map.specs.Record.{light, Map}
 use Rattle.edit.specs.Links as links
 use Rattle.edit.specs.Links.{RegulatoryLinks, kinds_of, first_entry, relinked}
-use Rattle.placing.specs.declared.Checked.{Checked}
-use Rattle.placing.specs.declared.Checked.TheVariants.{Refused}
 use Rattle.placing.specs.Answers.{checked}
-use Rattle.linking.specs.declared.SignalKinds.{SignalKinds}
-use Rattle.linking.specs.declared.SignalKinds.TheVariants.{Missing, Kinds}
 use Rattle.linking.specs.Kinds.{KindsRead}
 use Rattle.linking.specs.LightLinks.{kind_checks, light_checks, LightChecked}
+use Rattle.refusal.specs.declared.Refusal.{Refusal}
 
 -- ---- by the kinds
 
@@ -76,16 +75,16 @@ empty_is [] = refl
 empty_is (x ∷ xs) = sym (ne_eqb (length (x ∷ xs)) 0 (λ e. let z : ⊥ = omega arith in z))
 
 module _ (ws signals : List ℕ) (l c s : ℕ) where
-  pub light_dark : length signals ≡ 0 → LightChecked ws signals l c s (Refused (WrongLink 1))
+  pub light_dark : length signals ≡ 0 → LightChecked ws signals l c s (Err (WrongLink link_fault.NoSignals))
   unfolding light_checks
   light_dark h = record { answer = λ cs. rw (empty_is signals, eq-eqb (length signals) 0 h) }
 
-  module _ (h : length signals ≡ 0 → ⊥) (k : SignalKinds) (e : KindsRead ws signals k) where
-    pub light_missing : (n : ℕ) → k ≡ Missing n → LightChecked ws signals l c s (Refused (Unknown 6 n))
+  module _ (h : length signals ≡ 0 → ⊥) (k : Result (Bool × Bool) ℕ) (e : KindsRead ws signals k) where
+    pub light_missing : (n : ℕ) → k ≡ Err n → LightChecked ws signals l c s (Err (Unknown record_kind.Signal n))
     unfolding light_checks
     light_missing n q = record { answer = λ cs. rw (empty_is signals, ne_eqb (length signals) 0 h, ← e.answer cs, q) }
 
-    pub light_kinds : (v p : Bool) → k ≡ Kinds v p → (r : Checked) → checked r ≡ kind_checks v p l c s → LightChecked ws signals l c s r
+    pub light_kinds : (v p : Bool) → k ≡ Ok (v, p) → (r : Result (Unit {0}) Refusal) → checked r ≡ kind_checks v p l c s → LightChecked ws signals l c s r
     unfolding light_checks
     light_kinds v p q r f = record { answer = λ cs. rw (empty_is signals, ne_eqb (length signals) 0 h, ← e.answer cs, q) f }
 

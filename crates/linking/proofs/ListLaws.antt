@@ -2,7 +2,7 @@
 use Prim.Native.Nat.{ℕ, suc, ◌-◌, ◌≤◌, ◌<◌}
 use mathlib.Core.Path.{◌≡◌, refl, sym, ◌∙◌}
 use mathlib.Core.Bool.{Bool, true, false, cond}
-use mathlib.Core.Option.{Option, none, some}
+use Rattle.std.specs.Prelude.{Option, None, Some, Err, Ok, Result}
 use mathlib.Core.List.{List, [], ◌∷◌}
 use native.Mathlib.Omega.{arith}
 use lib.Dec.{ltb}
@@ -13,6 +13,7 @@ use borrow.Author.Tests.{lt-ltb, le-ltb}
 use Rattle.refusal.specs.Answer.{refused, done}
 use Rattle.refusal.specs.declared.Refusal.{Refusal}
 use Rattle.refusal.specs.declared.Refusal.TheVariants.{Unknown}
+use Rattle.refusal.specs.declared.RecordKind.TheVariants as record_kind
 use Rattle.rows.specs.Lists.{first_of, twice, sorted}
 use Rattle.store.specs.Layout.{count_of, records_of}
 use Rattle.map.specs.Record.{Lane, LineString, Crosswalk}
@@ -20,25 +21,21 @@ use Rattle.map.specs.Lookup.{unknown_in}
 use Rattle.map.specs.Tables.{lane_in, line_string_in, crosswalk_in, map_of}
 use Rattle.map.specs.Access.{index_in}
 use Rattle.map.proofs.ReadLaws.{holds_here, lane_number, line_number, crosswalk_number}
-use Rattle.placing.specs.declared.Checked.{Checked}
-use Rattle.placing.specs.declared.Checked.TheVariants.{Fine, Refused}
-use Rattle.placing.specs.declared.MaybeNumber.{MaybeNumber}
-use Rattle.placing.specs.declared.MaybeNumber.TheVariants.{At, Nothing}
-use Rattle.placing.specs.Answers.{maybe_number, checked}
+use Rattle.placing.specs.Answers.{checked}
 use Rattle.linking.specs.Linking.{lesser, known_in, less_if, unknown_least, twice_checks, list_checks, ListsChecked}
 use Rattle.linking.proofs.SortLaws.{sorted_up, least_insert}
 
 -- ---- the least so far
 
-module _ (n : ℕ) (b : MaybeNumber) where
-  pub lesser_none : b ≡ Nothing → some n ≡ lesser n (maybe_number b)
+module _ (n : ℕ) (b : Option ℕ) where
+  pub lesser_none : b ≡ None → Some n ≡ lesser n b
   lesser_none e = rw e
 
-  module _ (m : ℕ) (e : b ≡ At m) where
-    pub lesser_new : n < m → some n ≡ lesser n (maybe_number b)
+  module _ (m : ℕ) (e : b ≡ Some m) where
+    pub lesser_new : n < m → Some n ≡ lesser n b
     lesser_new h = rw (e, lt-ltb n m h)
 
-    pub lesser_old : m ≤ n → some m ≡ lesser n (maybe_number b)
+    pub lesser_old : m ≤ n → Some m ≡ lesser n b
     lesser_old h = rw (e, le-ltb n m h)
 
 module _ (ws : List ℕ) (k n : ℕ) (o : Option ℕ) (h : Bool) (e : h ≡ ltb (index_in ws k n) (count_of ws k)) where
@@ -52,20 +49,20 @@ module _ (ws : List ℕ) (k n : ℕ) (o : Option ℕ) (h : Bool) (e : h ≡ ltb 
 
 -- ---- the walk from the end
 
-pub record Least (ws : List ℕ) (k : ℕ) (ns : List ℕ) (best : MaybeNumber) (i : ℕ) : Type 0 where
+pub record Least (ws : List ℕ) (k : ℕ) (ns : List ℕ) (best : Option ℕ) (i : ℕ) : Type 0 where
   pub within : i ≤ length ns
-  pub goes : maybe_number best ≡ unknown_least ws k (drop i ns)
+  pub goes : best ≡ unknown_least ws k (drop i ns)
 
 module _ (ws : List ℕ) (k : ℕ) (ns : List ℕ) where
-  pub least_start : Least ws k ns Nothing (length ns)
+  pub least_start : Least ws k ns None (length ns)
   unfolding unknown_least sorted first_of
   least_start = record { within = omega arith; goes = let h : length ns ≤ length ns = omega arith in rw (drop_of_length-le ns h) }
 
-  module _ (best : MaybeNumber) (i : ℕ) (inv : Least ws k ns best i) where
-    pub least_end : i ≤ 0 → maybe_number best ≡ unknown_least ws k ns
+  module _ (best : Option ℕ) (i : ℕ) (inv : Least ws k ns best i) where
+    pub least_end : i ≤ 0 → best ≡ unknown_least ws k ns
     least_end h = let e : i ≡ 0 = omega arith in rw e at inv.goes
 
-    pub least_next : 0 < i → (r : MaybeNumber) → maybe_number r ≡ less_if ws k (get_or ns (i - 1) 0) (maybe_number best) → Least ws k ns r (i - 1)
+    pub least_next : 0 < i → (r : Option ℕ) → r ≡ less_if ws k (get_or ns (i - 1) 0) best → Least ws k ns r (i - 1)
     unfolding unknown_least sorted less_if
     least_next h r e =
         let w = inv.within in
@@ -101,7 +98,7 @@ module _ (lanes crosswalks lines : List ℕ) (a : Bool) (ea : a ≡ twice lanes)
 
 module _ (ws : List ℕ) (cs : List Float) (ns : List ℕ) where
   unknown_first : {A : Type 0} (num : A → ℕ) (f : List ℕ → List Float → A) → ((r : List ℕ) (c : List Float) → num (f r c) ≡ get_or r 0 0) → (k : ℕ) → k < 6
-      → (ys : List ℕ) → first_of (λ n. cond (known_in ws k n) none (some n)) ys ≡ unknown_in num (records_of f ws cs k) ys
+      → (ys : List ℕ) → first_of (λ n. cond (known_in ws k n) None (Some n)) ys ≡ unknown_in num (records_of f ws cs k) ys
   unfolding unknown_in first_of
   unknown_first num f e k hk [] = refl
   unknown_first num f e k hk (y ∷ ys) = rw (holds_here num f e ws cs k hk y, unknown_first num f e k hk ys)
@@ -118,26 +115,26 @@ module _ (ws : List ℕ) (cs : List Float) (ns : List ℕ) where
   unfolding unknown_least map_of
   unknown_lines = unknown_first (λ (l : LineString). l.num) line_string_in line_number 2 (omega arith) (sorted ns)
 
-module _ (ws lanes crosswalks lines : List ℕ) (t : Checked) (et : checked t ≡ twice_checks lanes crosswalks lines) where
-  pub lists_twice : (r : Refusal) → t ≡ Refused r → ListsChecked ws lanes crosswalks lines (Refused r)
+module _ (ws lanes crosswalks lines : List ℕ) (t : Result (Unit {0}) Refusal) (et : checked t ≡ twice_checks lanes crosswalks lines) where
+  pub lists_twice : (r : Refusal) → t ≡ Err r → ListsChecked ws lanes crosswalks lines (Err r)
   unfolding list_checks
   lists_twice r q = record { answer = λ cs. rw (← et, q) }
 
-  module _ (q : t ≡ Fine) (l : MaybeNumber) (el : maybe_number l ≡ unknown_least ws 0 lanes) where
-    pub lists_lane : (n : ℕ) → l ≡ At n → ListsChecked ws lanes crosswalks lines (Refused (Unknown 1 n))
+  module _ (q : t ≡ (Ok tt)) (l : Option ℕ) (el : l ≡ unknown_least ws 0 lanes) where
+    pub lists_lane : (n : ℕ) → l ≡ Some n → ListsChecked ws lanes crosswalks lines (Err (Unknown record_kind.Lane n))
     unfolding list_checks
     lists_lane n p = record { answer = λ cs. rw (← et, q, ← unknown_lanes ws cs lanes, ← el, p) }
 
-    module _ (p : l ≡ Nothing) (c : MaybeNumber) (ec : maybe_number c ≡ unknown_least ws 4 crosswalks) where
-      pub lists_crosswalk : (n : ℕ) → c ≡ At n → ListsChecked ws lanes crosswalks lines (Refused (Unknown 7 n))
+    module _ (p : l ≡ None) (c : Option ℕ) (ec : c ≡ unknown_least ws 4 crosswalks) where
+      pub lists_crosswalk : (n : ℕ) → c ≡ Some n → ListsChecked ws lanes crosswalks lines (Err (Unknown record_kind.Crosswalk n))
       unfolding list_checks
       lists_crosswalk n o = record { answer = λ cs. rw (← et, q, ← unknown_lanes ws cs lanes, ← el, p, ← unknown_crosswalks ws cs crosswalks, ← ec, o) }
 
-      module _ (o : c ≡ Nothing) (s : MaybeNumber) (es : maybe_number s ≡ unknown_least ws 2 lines) where
-        pub lists_line : (n : ℕ) → s ≡ At n → ListsChecked ws lanes crosswalks lines (Refused (Unknown 5 n))
+      module _ (o : c ≡ None) (s : Option ℕ) (es : s ≡ unknown_least ws 2 lines) where
+        pub lists_line : (n : ℕ) → s ≡ Some n → ListsChecked ws lanes crosswalks lines (Err (Unknown record_kind.StopLine n))
         unfolding list_checks
         lists_line n u = record { answer = λ cs. rw (← et, q, ← unknown_lanes ws cs lanes, ← el, p, ← unknown_crosswalks ws cs crosswalks, ← ec, o, ← unknown_lines ws cs lines, ← es, u) }
 
-        pub lists_fine : s ≡ Nothing → ListsChecked ws lanes crosswalks lines Fine
+        pub lists_fine : s ≡ None → ListsChecked ws lanes crosswalks lines (Ok tt)
         unfolding list_checks
         lists_fine u = record { answer = λ cs. rw (← et, q, ← unknown_lanes ws cs lanes, ← el, p, ← unknown_crosswalks ws cs crosswalks, ← ec, o, ← unknown_lines ws cs lines, ← es, u) }

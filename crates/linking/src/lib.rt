@@ -12,10 +12,3 @@ pub struct Sorted {
     pub count: usize,
     pub entries: [u64; 64],
 }
-
-// Whether some signals are for vehicles, and whether some are for pedestrians; or the first that the map lacks.
-#[derive(Drop)]
-pub enum SignalKinds {
-    Missing(u64),
-    Kinds(bool, bool),
-}

@@ -4,10 +4,8 @@ ghost use Rattle.store.specs.Layout.{SizedWords};
 ghost use Rattle.placing.specs.Answers.{checked};
 ghost use Rattle.linking.specs.LightLinks.{kind_checks, LightChecked};
 
-use crate::SignalKinds;
 use crate::kinds::kinds_of;
-use placing::Checked;
-use refusal::Refusal;
+use refusal::{LinkFault, RecordKind, Refusal};
 
 // 8/2 to 8/5, by the kinds of the signals and how many lanes, crosswalks and lines there are to be.
 fn check_kinds(
@@ -16,34 +14,34 @@ fn check_kinds(
     lanes: usize,
     crosswalks: usize,
     lines: usize,
-) -> Checked
+) -> Result<(), Refusal>
     ensures { checked result ≡ kind_checks vehicle pedestrian lanes crosswalks lines }
 {
     if pedestrian {
         if vehicle {
-            return Checked::Refused(Refusal::WrongLink(2));
+            return Err(Refusal::WrongLink(LinkFault::MixedSignals));
         }
         if lanes != 0 {
-            return Checked::Refused(Refusal::WrongLink(3));
+            return Err(Refusal::WrongLink(LinkFault::PedestriansWithLanes));
         }
         if lines != 0 {
-            return Checked::Refused(Refusal::WrongLink(3));
+            return Err(Refusal::WrongLink(LinkFault::PedestriansWithLanes));
         }
-        return Checked::Fine;
+        return Ok(());
     }
     if vehicle {
         if crosswalks != 0 {
-            return Checked::Refused(Refusal::WrongLink(4));
+            return Err(Refusal::WrongLink(LinkFault::VehiclesWithCrosswalks));
         }
         if 1 < lines {
-            return Checked::Refused(Refusal::WrongLink(5));
+            return Err(Refusal::WrongLink(LinkFault::SeveralLines));
         }
-        return Checked::Fine;
+        return Ok(());
     }
     if 1 < lines {
-        return Checked::Refused(Refusal::WrongLink(5));
+        return Err(Refusal::WrongLink(LinkFault::SeveralLines));
     }
-    Checked::Fine
+    Ok(())
 }
 
 // 8/1 for no signals, 2 for the first that is missing, then 8/2 to 8/5.
@@ -53,18 +51,16 @@ pub fn check_light(
     lanes: usize,
     crosswalks: usize,
     lines: usize,
-) -> Checked
+) -> Result<(), Refusal>
     requires { SizedWords words.now }
     ensures { LightChecked words.now signals.now lanes crosswalks lines result }
 {
     if signals.len() == 0 {
-        return Checked::Refused(Refusal::WrongLink(1));
+        return Err(Refusal::WrongLink(LinkFault::NoSignals));
     }
     let k = kinds_of(words, signals);
     match k {
-        SignalKinds::Missing(n) => Checked::Refused(Refusal::Unknown(6, n)),
-        SignalKinds::Kinds(vehicle, pedestrian) => {
-            check_kinds(vehicle, pedestrian, lanes, crosswalks, lines)
-        }
+        Err(n) => Err(Refusal::Unknown(RecordKind::Signal, n)),
+        Ok((vehicle, pedestrian)) => { check_kinds(vehicle, pedestrian, lanes, crosswalks, lines) }
     }
 }

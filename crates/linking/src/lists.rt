@@ -1,34 +1,29 @@
 // The lists of links: none listed twice, and all known.
 ghost use Rattle.std.specs.Prelude.{◌≡◌, ◌<◌};
+ghost use Rattle.store.specs.Kinds.{kind_number};
 ghost use Rattle.store.specs.Layout.{SizedWords};
-ghost use Rattle.placing.specs.Answers.{maybe_number, checked};
+ghost use Rattle.placing.specs.Answers.{checked};
 ghost use Rattle.linking.specs.Linking.{lesser, less_if, unknown_least, twice_checks, ListsChecked};
 
 use map::lookup;
 use placing::lists::twice;
-use placing::{Checked, MaybeNumber};
-use refusal::Refusal;
+use refusal::{Listed, RecordKind, Refusal};
+use store::Kind;
 
 // The lesser of a number and the least so far.
-fn lesser(n: u64, best: MaybeNumber) -> MaybeNumber
-    ensures { maybe_number result ≡ lesser n (maybe_number best) }
+fn lesser(n: u64, best: Option<u64>) -> Option<u64>
+    ensures { result ≡ lesser n best }
 {
     match best {
-        MaybeNumber::Nothing => MaybeNumber::At(n),
-        MaybeNumber::At(m) => {
-            if n < m {
-                MaybeNumber::At(n)
-            } else {
-                MaybeNumber::At(m)
-            }
-        }
+        None => Some(n),
+        Some(m) => { if n < m { Some(n) } else { Some(m) } }
     }
 }
 
 // The least so far, with one number more: it counts where kind k has no such record.
-fn less_if(words: &[u64], k: usize, n: u64, best: MaybeNumber) -> MaybeNumber
-    requires { SizedWords words.now × (k < 6) }
-    ensures { maybe_number result ≡ less_if words.now k n (maybe_number best) }
+fn less_if(words: &[u64], k: Kind, n: u64, best: Option<u64>) -> Option<u64>
+    requires { SizedWords words.now }
+    ensures { result ≡ less_if words.now (kind_number k) n best }
 {
     if lookup::holds(words, k, n) {
         return best;
@@ -37,11 +32,11 @@ fn less_if(words: &[u64], k: usize, n: u64, best: MaybeNumber) -> MaybeNumber
 }
 
 // The least number of the list that kind k has no record of.
-pub fn least_unknown(words: &[u64], k: usize, list: &[u64]) -> MaybeNumber
-    requires { SizedWords words.now × (k < 6) }
-    ensures { maybe_number result ≡ unknown_least words.now k list.now }
+pub fn least_unknown(words: &[u64], k: Kind, list: &[u64]) -> Option<u64>
+    requires { SizedWords words.now }
+    ensures { result ≡ unknown_least words.now (kind_number k) list.now }
 {
-    let mut best = MaybeNumber::Nothing;
+    let mut best = None;
     let mut i = list.len();
     while 0 < i {
         i -= 1;
@@ -51,41 +46,46 @@ pub fn least_unknown(words: &[u64], k: usize, list: &[u64]) -> MaybeNumber
 }
 
 // 3 for a lane, a crosswalk or a line that is listed twice.
-fn check_twice(lanes: &[u64], crosswalks: &[u64], lines: &[u64]) -> Checked
+fn check_twice(lanes: &[u64], crosswalks: &[u64], lines: &[u64]) -> Result<(), Refusal>
     ensures { checked result ≡ twice_checks lanes.now crosswalks.now lines.now }
 {
     if twice(lanes) {
-        return Checked::Refused(Refusal::ListedTwice(1));
+        return Err(Refusal::ListedTwice(Listed::Lanes));
     }
     if twice(crosswalks) {
-        return Checked::Refused(Refusal::ListedTwice(2));
+        return Err(Refusal::ListedTwice(Listed::Crosswalks));
     }
     if twice(lines) {
-        return Checked::Refused(Refusal::ListedTwice(3));
+        return Err(Refusal::ListedTwice(Listed::Lines));
     }
-    Checked::Fine
+    Ok(())
 }
 
 // 3, then 2 for the least lane, crosswalk or line that the map lacks.
-pub fn check_lists(words: &[u64], lanes: &[u64], crosswalks: &[u64], lines: &[u64]) -> Checked
+pub fn check_lists(
+    words: &[u64],
+    lanes: &[u64],
+    crosswalks: &[u64],
+    lines: &[u64],
+) -> Result<(), Refusal>
     requires { SizedWords words.now }
     ensures { ListsChecked words.now lanes.now crosswalks.now lines.now result }
 {
     let t = check_twice(lanes, crosswalks, lines);
-    if let Checked::Refused(r) = t {
-        return Checked::Refused(r);
+    if let Err(r) = t {
+        return Err(r);
     }
-    let l = least_unknown(words, 0, lanes);
-    if let MaybeNumber::At(n) = l {
-        return Checked::Refused(Refusal::Unknown(1, n));
+    let l = least_unknown(words, Kind::Lane, lanes);
+    if let Some(n) = l {
+        return Err(Refusal::Unknown(RecordKind::Lane, n));
     }
-    let c = least_unknown(words, 4, crosswalks);
-    if let MaybeNumber::At(n) = c {
-        return Checked::Refused(Refusal::Unknown(7, n));
+    let c = least_unknown(words, Kind::Crosswalk, crosswalks);
+    if let Some(n) = c {
+        return Err(Refusal::Unknown(RecordKind::Crosswalk, n));
     }
-    let s = least_unknown(words, 2, lines);
-    if let MaybeNumber::At(n) = s {
-        return Checked::Refused(Refusal::Unknown(5, n));
+    let s = least_unknown(words, Kind::StopLine, lines);
+    if let Some(n) = s {
+        return Err(Refusal::Unknown(RecordKind::StopLine, n));
     }
-    Checked::Fine
+    Ok(())
 }

@@ -2,7 +2,6 @@
 use Prim.Native.Nat.{ℕ, zero, suc, ◌+◌, ◌^◌, ◌<◌}
 use mathlib.Core.Path.{◌≡◌, refl, sym, ap, ◌∙◌}
 use mathlib.Core.Bool.{Bool, true, false, ◌&&◌, cond}
-use mathlib.Core.Option.{Option, none, some}
 use mathlib.Core.List.{List, [], ◌∷◌}
 use native.Mathlib.Omega.{arith}
 use lib.Dec.{eqb, leb}
@@ -16,7 +15,7 @@ use Rattle.rows.proofs.Indexed.{get_or-list_to}
 use Rattle.codec.proofs.Fits.{number_below}
 use Rattle.store.specs.Layout.{count_of, row_of, coords_of, records_of}
 use Rattle.store.proofs.StoreLaws.{length_records}
-use Rattle.map.specs.declared.Found.TheVariants.{At}
+use Rattle.std.specs.Prelude.{Some, Option, None}
 use Rattle.map.specs.Record.{RuleBody, light, sign, marking, right_of_way, crossing, other, Lane, LineString, Crosswalk, Rule, Map}
 use Rattle.map.specs.Ceilings.{max_stop_lines, max_signals, max_rules, max_points, body_within, rule_within, body_points, rule_points, points, within_ceilings}
 use Rattle.map.specs.Lookup.{rule_of, unknown_in}
@@ -75,7 +74,7 @@ edit_is a m = go (rule_of m a.rule)
     draft : Rule → RuleBody → Draft
     draft r w =
         let s : Rule = record { num = r.num; body = w; lanes = b.lanes; controlled = b.crosswalks } in
-        record { map = with_rules m (replaced (λ x. x.num) s m.rules); id = r.num; stored = []; ends = none; changes = link_changes (same_links r s) r.num }
+        record { map = with_rules m (replaced (λ x. x.num) s m.rules); id = r.num; stored = []; ends = None; changes = link_changes (same_links r s) r.num }
 
     go : (o : Option Rule) → (present o 2 (8 ∷ a.rule ∷ []) >>= λ r.
         refuse_when (twice a.lanes) 3 (1 ∷ []) >> (refuse_when (twice a.crosswalks) 3 (2 ∷ []) >> (refuse_when (twice a.stop_lines) 3 (3 ∷ [])
@@ -83,8 +82,8 @@ edit_is a m = go (rule_of m a.rule)
         >> (refuse_found (unknown_in (λ (l : LineString). l.num) m.stop_lines b.stop_lines) 5 >> (relinked m b r.body >>= λ w. done (draft r w))))))))
         ≡ ((present o 2 (8 ∷ a.rule ∷ []) >> list_checks m a.lanes a.crosswalks a.stop_lines)
         >> (present o 2 (8 ∷ a.rule ∷ []) >>= λ r. rule_checks m r.body (length b.lanes) (length b.crosswalks) b.stop_lines >> done (draft r (linked_body r.body b.stop_lines))))
-    go none = refl
-    go (some r) =
+    go None = refl
+    go (Some r) =
         regroup (refuse_when (twice a.lanes) 3 (1 ∷ [])) (refuse_when (twice a.crosswalks) 3 (2 ∷ [])) (refuse_when (twice a.stop_lines) 3 (3 ∷ []))
         (refuse_found (unknown_in (λ (l : Lane). l.num) m.lanes b.lanes) 1) (refuse_found (unknown_in (λ (c : Crosswalk). c.num) m.crosswalks b.crosswalks) 7)
         (refuse_found (unknown_in (λ (l : LineString). l.num) m.stop_lines b.stop_lines) 5) (relinked m b r.body >>= λ w. done (draft r w))
@@ -131,7 +130,7 @@ only_rules : (x y z w p : Bool) → x ≡ true → y ≡ true → z ≡ true →
 only_rules x y z true p a b c d = rw (a, b, c, d)
 only_rules x y z false p a b c d = rw (a, b, c)
 
-module _ (ws : List ℕ) (cs : List Float) (ok : Sound ws cs) (n i : ℕ) (found : lookup ws 5 n ≡ At i) (b : RegulatoryLinks) where
+module _ (ws : List ℕ) (cs : List Float) (ok : Sound ws cs) (n i : ℕ) (found : lookup ws 5 n ≡ Some i) (b : RegulatoryLinks) where
   pub here : i < count_of ws 5
   here = (found_index (λ (r : Rule). r.num) rule_in rule_number_lem ws cs 5 (omega arith) n i found).1
 
@@ -207,7 +206,7 @@ module _ (ws : List ℕ) (cs : List Float) (ok : Sound ws cs) (n i : ℕ) (found
   unfolding draft_for
   draft_stored = refl
 
-  pub draft_ends : draft.ends ≡ none
+  pub draft_ends : draft.ends ≡ None
   unfolding draft_for
   draft_ends = refl
 

@@ -2,7 +2,7 @@
 use Prim.Native.Nat.{ℕ, ◌^◌}
 use mathlib.Core.Path.{◌≡◌, refl, ap, ◌∙◌}
 use mathlib.Core.Bool.{false, not, ◌&&◌}
-use mathlib.Core.Option.{Option, none, some}
+use Rattle.std.specs.Prelude.{Option, None, Some}
 use mathlib.Core.List.{List, [], ◌∷◌}
 use lib.Dec.{leb}
 use lib.ListN.{get_or}
@@ -63,8 +63,8 @@ call_kept edit before e s =
 
 line_draft_kept : (a : NewStopLine) (d : Draft) (o : Option RuleBody) → bare_draft (line_draft a d o) ≡ old.line_draft a (bare_draft d) o
 unfolding line_draft old.line_draft
-line_draft_kept a d none = refl
-line_draft_kept a d (some w) = refl
+line_draft_kept a d None = refl
+line_draft_kept a d (Some w) = refl
 
 line_edit_kept : (a : NewStopLine) (m : Map) → with_result bare_draft (stop_line_edit a m) ≡ old.stop_line_edit a m
 unfolding stop_line_edit old.stop_line_edit
@@ -101,8 +101,8 @@ module _ (m : Map) (lanes : List ℕ) where
 
   auto_kept : (o : Option ℕ) → with_result bare_plan (auto_plan m lanes o) ≡ old.auto_plan m lanes o
   unfolding auto_plan old.auto_plan
-  auto_kept none = draw_kept (AtLaneEnd f0) []
-  auto_kept (some s) = refl
+  auto_kept None = draw_kept (AtLaneEnd f0) []
+  auto_kept (Some s) = refl
 
   plan_kept : (g : Option ℕ) (c : StopLineChoice) (cs : List Float) → with_result bare_plan (plan_for m lanes g c cs) ≡ old.plan_for m lanes g c cs
   unfolding plan_for old.plan_for
@@ -123,8 +123,8 @@ module _ (m : Map) (lanes : List ℕ) where
 
 housing_kept : (m : Map) (n : ℕ) (xs : Polyline) (o : Option (List Float)) → with_result bare (housing_for m n xs o) ≡ old.housing_for m n xs o
 unfolding housing_for old.housing_for
-housing_kept m n xs (some cs) = refl
-housing_kept m n xs none = past bare (synthesize_signal_geometry m n xs) _ _ (λ ys. refl)
+housing_kept m n xs (Some cs) = refl
+housing_kept m n xs None = past bare (synthesize_signal_geometry m n xs) _ _ (λ ys. refl)
 
 light_plan_kept : (a : NewTrafficSignal) (m : Map) → with_result bare_planned (light_plan a m) ≡ old.light_plan a m
 unfolding light_plan old.light_plan

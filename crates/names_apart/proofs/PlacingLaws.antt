@@ -2,7 +2,7 @@
 use Prim.Native.Nat.{ℕ}
 use mathlib.Core.Path.{◌≡◌, refl, ap, ◌∙◌}
 use mathlib.Core.Bool.{Bool, true, false, not, ◌||◌, cond}
-use mathlib.Core.Option.{Option, none, some}
+use Rattle.std.specs.Prelude.{Option, None, Some}
 use mathlib.Core.List.{List, [], ◌∷◌}
 use lib.ListN.{get_or}
 use lib.Ieee.{Float, lt}
@@ -46,26 +46,26 @@ abbrev end : End → old.End
 end e = record { lateral = e.lateral; point = e.point }
 
 abbrev maybe_end_lem : Option End → Option old.End
-maybe_end_lem none = none
-maybe_end_lem (some e) = some (end e)
+maybe_end_lem None = None
+maybe_end_lem (Some e) = Some (end e)
 
 abbrev ends : Ends → old.Ends
 ends es = record { left = maybe_end_lem es.left; right = maybe_end_lem es.right }
 
 outer_kept : (beats : Float → Float → Bool) (o : Option End) (e : End) → maybe_end_lem (outer beats o e) ≡ old.outer beats (maybe_end_lem o) (end e)
 unfolding outer old.outer
-outer_kept beats none e = refl
-outer_kept beats (some b) e = go (beats e.lateral b.lateral)
+outer_kept beats None e = refl
+outer_kept beats (Some b) e = go (beats e.lateral b.lateral)
   where
-    go : (t : Bool) → some (end (cond t e b)) ≡ some (cond t (end e) (end b))
+    go : (t : Bool) → Some (end (cond t e b)) ≡ Some (cond t (end e) (end b))
     go true = refl
     go false = refl
 
 module _ (m : Map) (p : Point3) (normal : Point2) where
   widened_kept : (x : EndName) (o : Option NearestPoint) (es : Ends) → ends (widened p normal x o es) ≡ old.widened p normal o (ends es)
   unfolding widened old.widened
-  widened_kept x none es = refl
-  widened_kept x (some n) es = rw (outer_kept (λ a b. lt b a) es.left, outer_kept lt es.right)
+  widened_kept x None es = refl
+  widened_kept x (Some n) es = rw (outer_kept (λ a b. lt b a) es.left, outer_kept lt es.right)
 
   side_kept : (x : EndName) (s : BoundaryRef) (es : Ends) → with_result ends (with_side m p normal x s es) ≡ old.with_side m p normal s (ends es)
   unfolding with_side old.with_side
@@ -89,9 +89,9 @@ module _ (m : Map) (p : Point3) (normal : Point2) where
 
 section_kept : (l r : Option End) → with_result (λ x. x.points) (section l r) ≡ old.section (maybe_end_lem l) (maybe_end_lem r)
 unfolding section old.section
-section_kept none r = refl
-section_kept (some l) none = refl
-section_kept (some l) (some r) = go (lt milli (l.lateral ⊖ r.lateral))
+section_kept None r = refl
+section_kept (Some l) None = refl
+section_kept (Some l) (Some r) = go (lt milli (l.lateral ⊖ r.lateral))
   where
     go : (t : Bool) → with_result (λ (x : Section). x.points) (cond t (done (record { points = l.point ∷ r.point ∷ []; names = record { left = l.name; right = r.name } })) (refused 6 (5 ∷ [])))
         ≡ cond t (done (l.point ∷ r.point ∷ [])) (refused 6 (5 ∷ []))

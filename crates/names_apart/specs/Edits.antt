@@ -1,6 +1,5 @@
 -- The three edits as they were defined before a line's ends had names; what stands twice is what names the ends now.
-use Rattle.std.specs.Prelude.{ℕ, ◌^◌, not, ◌&&◌, List, [], ◌∷◌, ◌++◌, leb, get_or, Float}
-use Rattle.std.proofs.Math.Option.{Option, none, some}
+use Rattle.std.specs.Prelude.{ℕ, ◌^◌, not, ◌&&◌, List, [], ◌∷◌, ◌++◌, leb, get_or, Float, Option, None, Some}
 use Rattle.refusal.specs.Answer.{Answer, done, ◌>>=◌, ◌>>◌, refuse_when, present}
 use Rattle.rows.specs.Lists.{or_else, every, twice, sorted}
 use Rattle.rows.specs.Table.{replaced}
@@ -63,13 +62,13 @@ call edit s = do
 -- ---- a stop line
 
 unfoldable pub line_draft : NewStopLine → Draft → Option RuleBody → Draft
-line_draft a d none = record {
+line_draft a d None = record {
   map = d.map;
   id = d.id;
   stored = d.stored;
-  changes = record { created = d.changes.created; modified = []; deleted = []; warnings = d.changes.warnings ++ (warning 2 (some (entity 5 d.id)) ∷ []) };
+  changes = record { created = d.changes.created; modified = []; deleted = []; warnings = d.changes.warnings ++ (warning 2 (Some (entity 5 d.id)) ∷ []) };
 }
-line_draft a d (some w) = record {
+line_draft a d (Some w) = record {
   map = with_rule d.map w a.lanes;
   id = d.id;
   stored = d.stored;
@@ -105,8 +104,8 @@ draw_plan m lanes how cs = do
   done (draw p)
 
 unfoldable pub auto_plan : Map → List ℕ → Option ℕ → Answer Plan
-auto_plan m lanes none = draw_plan m lanes (AtLaneEnd f0) []
-auto_plan m lanes (some s) = done (use_line s)
+auto_plan m lanes None = draw_plan m lanes (AtLaneEnd f0) []
+auto_plan m lanes (Some s) = done (use_line s)
 
 unfoldable pub plan_for : Map → List ℕ → Option ℕ → StopLineChoice → List Float → Answer Plan
 plan_for m lanes group (Existing s) cs = done (use_line s)
@@ -122,19 +121,19 @@ anchor_for m lanes (use_line s) = do
 anchor_for m lanes (draw p) = done p.points
 anchor_for m lanes use_none =
     let reference = get_or lanes 0 0 in
-    cross_section m reference (elim (lane_centerline m reference) [ none ↦ f0 | some c ↦ polyline_length c ]) lanes
+    cross_section m reference (elim (lane_centerline m reference) [ None ↦ f0 | Some c ↦ polyline_length c ]) lanes
 
 -- the points as given, or made up with a warning
 unfoldable pub housing_for : Map → ℕ → Polyline → Option (List Float) → Answer Placed
-housing_for m reference anchor (some cs) = done (record { points = polyline_of cs; warnings = [] })
-housing_for m reference anchor none = do
+housing_for m reference anchor (Some cs) = done (record { points = polyline_of cs; warnings = [] })
+housing_for m reference anchor None = do
   xs ← synthesize_signal_geometry m reference anchor
-  done (record { points = xs; warnings = warning 3 none ∷ [] })
+  done (record { points = xs; warnings = warning 3 None ∷ [] })
 
 unfoldable pub line_drawn : Map → Plan → Drawing
-line_drawn m (use_line s) = record { map = m; line = some s; created = []; modified = []; deleted = []; warnings = [] }
-line_drawn m use_none = record { map = m; line = none; created = []; modified = []; deleted = []; warnings = [] }
-line_drawn m (draw p) = record { map = with_line m p.points; line = some (fresh m); created = entity 5 (fresh m) ∷ []; modified = []; deleted = []; warnings = p.warnings }
+line_drawn m (use_line s) = record { map = m; line = Some s; created = []; modified = []; deleted = []; warnings = [] }
+line_drawn m use_none = record { map = m; line = None; created = []; modified = []; deleted = []; warnings = [] }
+line_drawn m (draw p) = record { map = with_line m p.points; line = Some (fresh m); created = entity 5 (fresh m) ∷ []; modified = []; deleted = []; warnings = p.warnings }
 
 unfoldable pub plan_points : Plan → Polyline
 plan_points (use_line s) = []

@@ -1,6 +1,5 @@
 -- The cross-section and the placement as they were defined before an end had a name.
-use Rattle.std.specs.Prelude.{ℕ, Bool, not, ◌||◌, cond, List, [], ◌∷◌, get_or, Float}
-use Rattle.std.proofs.Math.Option.{Option, none, some}
+use Rattle.std.specs.Prelude.{ℕ, Bool, not, ◌||◌, cond, List, [], ◌∷◌, get_or, Float, Option, None, Some}
 use Rattle.std.specs.Float.Ieee.{lt}
 use Rattle.refusal.specs.Answer.{Answer, refused, done, ◌>>=◌, ◌>>◌, refuse_when, present}
 use Rattle.geometry.specs.declared.Point2.{Point2}
@@ -29,13 +28,13 @@ pub record Ends : Type 0 where
 
 -- the end that lies farther out; on equal values the earlier one stays
 unfoldable pub outer : (Float → Float → Bool) → Option End → End → Option End
-outer beats none e = some e
-outer beats (some b) e = some (cond (beats e.lateral b.lateral) e b)
+outer beats None e = Some e
+outer beats (Some b) e = Some (cond (beats e.lateral b.lateral) e b)
 
 -- a boundary without points is passed over
 unfoldable pub widened : Point3 → Point2 → Option NearestPoint → Ends → Ends
-widened p normal none es = es
-widened p normal (some n) es =
+widened p normal None es = es
+widened p normal (Some n) es =
     let e : End = record { lateral = dot normal (sub2 (xy n.point) (xy p)); point = n.point } in
     record { left = outer (λ x y. lt y x) es.left e; right = outer lt es.right e }
 
@@ -56,16 +55,16 @@ with_lanes m p normal (n ∷ ns) es = with_lane m p normal n es >>= λ one. with
 
 -- the ends must be more than 1e-3 apart
 unfoldable pub section : Option End → Option End → Answer Polyline
-section none r = refused 6 (5 ∷ [])
-section (some l) none = refused 6 (5 ∷ [])
-section (some l) (some r) = cond (lt milli (l.lateral ⊖ r.lateral)) (done (l.point ∷ r.point ∷ [])) (refused 6 (5 ∷ []))
+section None r = refused 6 (5 ∷ [])
+section (Some l) None = refused 6 (5 ∷ [])
+section (Some l) (Some r) = cond (lt milli (l.lateral ⊖ r.lateral)) (done (l.point ∷ r.point ∷ [])) (refused 6 (5 ∷ []))
 
 unfoldable pub cross_section : Map → ℕ → Float → List ℕ → Answer Polyline
 cross_section m reference station lanes = do
   center ← present (lane_centerline m reference) 6 (1 ∷ [])
   p ← present (point_at center station) 6 (2 ∷ [])
   dir ← present (direction_at center station) 6 (3 ∷ [])
-  es ← with_lanes m p (perp dir) lanes (record { left = none; right = none })
+  es ← with_lanes m p (perp dir) lanes (record { left = None; right = None })
   section es.left es.right
 
 -- ---- the placement

@@ -1,8 +1,7 @@
 // The three calls by numbers: enums as numbers, and the answer as words have it.
 #![tactic(auto)]
 
-ghost use Rattle.std.specs.Prelude.{◌≡◌, length};
-ghost use Rattle.std.proofs.Math.Option.{some};
+ghost use Rattle.std.specs.Prelude.{◌≡◌, length, Some};
 ghost use Rattle.call_list.specs.Step.{StepLeft};
 ghost use Rattle.call_list.specs.Rows.{line_by, light_by, links_by};
 
@@ -78,7 +77,7 @@ pub fn links_by(
     crosswalks: &[u64],
     stop_lines: &[u64],
 ) -> Carried
-    ensures { StepLeft (some (links_by rule lanes.now crosswalks.now stop_lines.now)) (record { words = words.old; coords = coords.old; fold = fold.old; tally = tally; set = set.old }) result.reply (record { words = words.new; coords = coords.new; fold = fold.new; tally = result.tally; set = set.new }) }
+    ensures { StepLeft (Some (links_by rule lanes.now crosswalks.now stop_lines.now)) (record { words = words.old; coords = coords.old; fold = fold.old; tally = tally; set = set.old }) result.reply (record { words = words.new; coords = coords.new; fold = fold.new; tally = result.tally; set = set.new }) }
 {
     let a = links::set_regulatory_links(
         words, coords, fold, tally, set, rule, lanes, crosswalks, stop_lines,

@@ -2,7 +2,7 @@
 use Prim.Native.Nat.{ℕ}
 use mathlib.Core.Path.{◌≡◌, refl}
 use mathlib.Core.Bool.{Bool, true, false}
-use mathlib.Core.Option.{Option, none, some}
+use Rattle.std.specs.Prelude.{Option, None, Some}
 use mathlib.Core.List.{List}
 use native.Mathlib.Omega.{arith}
 use Rattle.refusal.specs.Answer.{Answer, refused, done, ◌>>=◌, ◌>>◌, refuse_when, present}
@@ -41,6 +41,6 @@ pub past : {B : Type 0} (t : Bool) (n : ℕ) (ds : List ℕ) (y : Answer B) (b :
 past true n ds y b e = never e
 past false n ds y b e = record { test = refl; rest = e }
 
-pub there : {A : Type 0} (o : Option A) (n : ℕ) (ds : List ℕ) (a : A) → present o n ds ≡ done a → o ≡ some a
-there none n ds a e = never e
-there (some x) n ds a e = cc
+pub there : {A : Type 0} (o : Option A) (n : ℕ) (ds : List ℕ) (a : A) → present o n ds ≡ done a → o ≡ Some a
+there None n ds a e = never e
+there (Some x) n ds a e = cc

@@ -2,7 +2,7 @@
 use Prim.Native.Nat.{ℕ}
 use mathlib.Core.Path.{◌≡◌, refl}
 use mathlib.Core.Bool.{true, false}
-use mathlib.Core.Option.{none}
+use Rattle.std.specs.Prelude.{None}
 use mathlib.Core.List.{[], ◌∷◌, ◌++◌}
 use lib.Ieee.{Float, neg}
 use lib.ListN.{length}
@@ -45,7 +45,7 @@ beside =
     let m = fresh_map (whole 2) in
     record {
       next = 7;
-      lanes = m.lanes ++ (record { num = 6; kind = 0; left = record { boundary = 4; reversed = false }; right = record { boundary = 5; reversed = false }; centerline = none } ∷ []);
+      lanes = m.lanes ++ (record { num = 6; kind = 0; left = record { boundary = 4; reversed = false }; right = record { boundary = 5; reversed = false }; centerline = None } ∷ []);
       boundaries = m.boundaries ++ (record { num = 4; geometry = at3 f0 (whole 6) f0 ∷ at3 (whole 5) (whole 6) f0 ∷ [] } ∷ record { num = 5; geometry = at3 f0 (whole 4) f0 ∷ at3 (whole 5) (whole 4) f0 ∷ [] } ∷ []);
       stop_lines = [];
       signals = [];

@@ -2,7 +2,7 @@
 use Prim.Native.Nat.{ℕ}
 use mathlib.Core.Path.{◌≡◌, refl, sym, ap, ◌∙◌, subst}
 use mathlib.Core.Bool.{Bool, true, false, not, ◌||◌, cond}
-use mathlib.Core.Option.{Option, none, some}
+use Rattle.std.specs.Prelude.{Option, None, Some}
 use mathlib.Core.List.{List, [], ◌∷◌, ◌++◌, append-nil, append_assoc}
 use native.Mathlib.Omega.{arith}
 use lib.Dec.{eqb}
@@ -64,21 +64,21 @@ module _ (beats level : Float → Float → Bool) (itself : (x : Float) → beat
         first = f.first;
       }
 
-  best_first : (cs seen : List End) (b : End) → IsFirst beats level seen b → (e : End) → best beats (some b) cs ≡ some e → IsFirst beats level (seen ++ cs) e
+  best_first : (cs seen : List End) (b : End) → IsFirst beats level seen b → (e : End) → best beats (Some b) cs ≡ Some e → IsFirst beats level (seen ++ cs) e
   unfolding outer
   best_first [] seen b f e q = let r : b ≡ e = cc in rw append-nil (subst (IsFirst beats level seen) r f)
   best_first (c ∷ cs) seen b f e q =
       subst (λ (l : List End). IsFirst beats level l e) (append_assoc seen (c ∷ []) cs)
       (best_first cs (seen ++ (c ∷ [])) (cond (beats c.lateral b.lateral) c b) (met seen b f c (beats c.lateral b.lateral) refl) e q)
 
-  pub best_is : (cs : List End) (e : End) → best beats none cs ≡ some e → IsFirst beats level cs e
+  pub best_is : (cs : List End) (e : End) → best beats None cs ≡ Some e → IsFirst beats level cs e
   unfolding outer every
   best_is [] e q = let z : ◌≡◌ {A = ℕ} 0 1 = cc in absurd (omega arith)
   best_is (c ∷ cs) e q =
       best_first cs (c ∷ []) c (record { before = []; after = []; stands = refl; outermost = and_i _ _ (ap not (itself c.lateral)) refl; first = refl }) e q
 
 module _ (cs : List End) (e : End) where
-  leftmost : best (λ x y. lt y x) none cs ≡ some e → IsFirst (λ x y. lt y x) (λ x y. le y x) cs e
+  leftmost : best (λ x y. lt y x) None cs ≡ Some e → IsFirst (λ x y. lt y x) (λ x y. le y x) cs e
   leftmost = best_is (λ x y. lt y x) (λ x y. le y x) lt_none over (λ x y h. not_lt x y h) cs e
     where
       over : (b x j : Float) → lt b x ≡ true → lt b j ≡ false → le x j ≡ false
@@ -88,7 +88,7 @@ module _ (cs : List End) (e : End) where
           go false h = h
           go true h = clash (lt_le b x j p h) q
 
-  rightmost : best lt none cs ≡ some e → IsFirst lt le cs e
+  rightmost : best lt None cs ≡ Some e → IsFirst lt le cs e
   rightmost = best_is lt le lt_none over (λ x y h. not_lt y x h) cs e
     where
       over : (b x j : Float) → lt x b ≡ true → lt j b ≡ false → le j x ≡ false
@@ -119,8 +119,8 @@ taking_right (c ∷ cs) es = taking_right cs _
 module _ (m : Map) (p : Point3) (normal : Point2) where
   widened_taken : (x : EndName) (o : Option NearestPoint) (es : Ends) → widened p normal x o es ≡ taking (candidate_at p normal x o) es
   unfolding widened candidate_at
-  widened_taken x none es = refl
-  widened_taken x (some n) es = refl
+  widened_taken x None es = refl
+  widened_taken x (Some n) es = refl
 
   side_taken : (x : EndName) (s : BoundaryRef) (es r : Ends) → side_named m x ≡ oriented m s → with_side m p normal x s es ≡ done r → r ≡ taking (candidate m p normal x) es
   unfolding with_side candidate candidate_on
@@ -129,9 +129,9 @@ module _ (m : Map) (p : Point3) (normal : Point2) where
       let o = there (oriented m s) 6 (4 ∷ []) w.value w.first in
       rw (h, o) (sym (done_is w.rest) ∙ widened_taken x (nearest_point w.value (xy p)) es)
 
-  named_is : (n : ℕ) (l : Lane) (k : LaneSide) → lane_of m n ≡ some l → side_named m (record { lane = n; side = k }) ≡ oriented m (side_at l k)
+  named_is : (n : ℕ) (l : Lane) (k : LaneSide) → lane_of m n ≡ Some l → side_named m (record { lane = n; side = k }) ≡ oriented m (side_at l k)
   unfolding side_named
-  named_is n l k e = ap (λ (o : Option Lane). elim o [ none ↦ none | some d ↦ oriented m (side_at d k) ]) e
+  named_is n l k e = ap (λ (o : Option Lane). elim o [ None ↦ None | Some d ↦ oriented m (side_at d k) ]) e
 
   lane_taken : (n : ℕ) (es r : Ends) → with_lane m p normal n es ≡ done r → r ≡ taking (candidate m p normal (record { lane = n; side = Right })) (taking (candidate m p normal (record { lane = n; side = Left })) es)
   unfolding with_lane
@@ -172,15 +172,15 @@ each_if P Q f [] u = tt
 each_if P Q f (c ∷ cs) u = (f c u.0, each_if P Q f cs u.1)
 
 module _ (m : Map) (p : Point3) (normal : Point2) where
-  at_named : (ls : List ℕ) (x : EndName) → member x.lane ls ≡ true → (b : Polyline) → side_named m x ≡ some b → (o : Option NearestPoint) → nearest_point b (xy p) ≡ o → Each (IsNamed m p normal ls) (candidate_at p normal x o)
+  at_named : (ls : List ℕ) (x : EndName) → member x.lane ls ≡ true → (b : Polyline) → side_named m x ≡ Some b → (o : Option NearestPoint) → nearest_point b (xy p) ≡ o → Each (IsNamed m p normal ls) (candidate_at p normal x o)
   unfolding candidate_at
-  at_named ls x h b s none q = tt
-  at_named ls x h b s (some n) q = (record { listed = h; line = b; along = s; nearest = n; near = q; point = refl; lateral = refl }, tt)
+  at_named ls x h b s None q = tt
+  at_named ls x h b s (Some n) q = (record { listed = h; line = b; along = s; nearest = n; near = q; point = refl; lateral = refl }, tt)
 
   on_named : (ls : List ℕ) (x : EndName) → member x.lane ls ≡ true → (o : Option Polyline) → side_named m x ≡ o → Each (IsNamed m p normal ls) (candidate_on p normal x o)
   unfolding candidate_on
-  on_named ls x h none s = tt
-  on_named ls x h (some b) s = at_named ls x h b s (nearest_point b (xy p)) refl
+  on_named ls x h None s = tt
+  on_named ls x h (Some b) s = at_named ls x h b s (nearest_point b (xy p)) refl
 
   more_lanes : (n : ℕ) (ns : List ℕ) (e : End) → IsNamed m p normal ns e → IsNamed m p normal (n ∷ ns) e
   unfolding member
@@ -206,21 +206,21 @@ module _ (m : Map) (p : Point3) (normal : Point2) where
 record Across (l r : Option End) (x : Section) : Type 0 where
   left : End
   right : End
-  left_is : l ≡ some left
-  right_is : r ≡ some right
+  left_is : l ≡ Some left
+  right_is : r ≡ Some right
   is : x ≡ record { points = left.point ∷ right.point ∷ []; names = record { left = left.name; right = right.name } }
   wide : lt milli (left.lateral ⊖ right.lateral) ≡ true
 
 across : (l r : Option End) (x : Section) → section l r ≡ done x → Across l r x
 unfolding section
-across none r x e = never e
-across (some l) none x e = never e
-across (some l) (some r) x e = go (lt milli (l.lateral ⊖ r.lateral)) refl e
+across None r x e = never e
+across (Some l) None x e = never e
+across (Some l) (Some r) x e = go (lt milli (l.lateral ⊖ r.lateral)) refl e
   where
     it : Section
     it = record { points = l.point ∷ r.point ∷ []; names = record { left = l.name; right = r.name } }
 
-    go : (t : Bool) → lt milli (l.lateral ⊖ r.lateral) ≡ t → cond t (done it) (refused 6 (5 ∷ [])) ≡ done x → Across (some l) (some r) x
+    go : (t : Bool) → lt milli (l.lateral ⊖ r.lateral) ≡ t → cond t (done it) (refused 6 (5 ∷ [])) ≡ done x → Across (Some l) (Some r) x
     go true h e = record { left = l; right = r; left_is = refl; right_is = refl; is = sym (done_is e); wide = h }
     go false h e = never e
 
@@ -234,7 +234,7 @@ ends_named m reference station lanes x e =
     let w₄ = went (with_lanes m w₂.value (perp w₃.value) lanes no_ends) _ x w₃.rest in
     finish w₁.value (there _ _ _ _ w₁.first) w₂.value (there _ _ _ _ w₂.first) w₃.value (there _ _ _ _ w₃.first) w₄.value w₄.first (across _ _ x w₄.rest)
   where
-    finish : (c : Polyline) → lane_centerline m reference ≡ some c → (p : Point3) → point_at c station ≡ some p → (d : Point2) → direction_at c station ≡ some d
+    finish : (c : Polyline) → lane_centerline m reference ≡ Some c → (p : Point3) → point_at c station ≡ Some p → (d : Point2) → direction_at c station ≡ Some d
         → (es : Ends) → with_lanes m p (perp d) lanes no_ends ≡ done es → Across es.left es.right x → Named m reference station lanes x
     finish c hc p hp d hd es h a =
         let cs = candidates m p (perp d) lanes in
@@ -274,7 +274,7 @@ module _ (m : Map) (lanes : List ℕ) (p : Placed) where
             (ends_named m (get_or lanes 0 0) (clamp station f0 len) lanes w.value w.first);
       }
 
-  given_ends : (cs : List Float) → place_stop_line m lanes Given cs ≡ done p → p.ends ≡ none
+  given_ends : (cs : List Float) → place_stop_line m lanes Given cs ≡ done p → p.ends ≡ None
   unfolding place_stop_line place_as
   given_ends cs e =
       let w = went (present (lane_centerline m (get_or lanes 0 0)) 6 (1 ∷ [])) _ p e in

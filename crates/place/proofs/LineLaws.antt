@@ -2,7 +2,6 @@
 use Prim.Native.Nat.{ℕ, suc, ◌+◌, ◌*◌, ◌/◌, ◌≤◌, ◌<◌, max}
 use mathlib.Core.Path.{◌≡◌, refl, sym, ap, ap₂, ◌∙◌}
 use mathlib.Core.Bool.{Bool, true, false, not, cond, true≢false}
-use mathlib.Core.Option.{Option, none, some}
 use mathlib.Core.List.{List, [], ◌∷◌}
 use native.Mathlib.Nat.{zero-add}
 use native.Mathlib.Omega.{arith}
@@ -23,13 +22,13 @@ use Rattle.centerline.specs.declared.Line.{Line}
 use Rattle.centerline.specs.Line.{points_of, line_option}
 use Rattle.centerline.proofs.Made.{reversed_is}
 use Rattle.store.specs.Layout.{SizedWords, limit_of, width_of, coord_width_of, count_of, row_of, coords_of, all_coords}
-use Rattle.map.specs.declared.Found.{Found}
-use Rattle.map.specs.declared.Found.TheVariants.{At, Nothing}
+use Rattle.map.specs.Access.{Found}
+use Rattle.std.specs.Prelude.{Some, None, Option}
 use Rattle.map.specs.declared.LaneRow.{LaneRow}
 use Rattle.map.specs.Record.{Lane, LineString, Map}
 use Rattle.map.specs.Lookup.{lane_of, boundary_of, oriented}
 use Rattle.map.specs.Tables.{line_at, lane_in, line_string_in, map_of}
-use Rattle.map.specs.Access.{lookup, LaneRead, lane_of_row}
+use Rattle.map.specs.Access.{lookup, LaneRead, centerline_of_row, lane_of_row}
 use Rattle.map.proofs.ReadLaws.{found_index, found_record, none_record, lane_number, line_number}
 use Rattle.place.specs.declared.MaybeLine.{MaybeLine}
 use Rattle.place.specs.Place.{between, centerline_of, lane_centerline}
@@ -72,8 +71,8 @@ module _ (cs d : List Float) (n : ℕ) (e : n ≡ length cs / 3) (h : n ≤ 64) 
 
 -- ---- a record that a look-up found
 
-module _ (ws : List ℕ) (k x i : ℕ) (r : Found) (e : r ≡ lookup ws k x) (f : r ≡ At i) where
-  found_at : lookup ws k x ≡ At i
+module _ (ws : List ℕ) (k x i : ℕ) (r : Found) (e : r ≡ lookup ws k x) (f : r ≡ Some i) where
+  found_at : lookup ws k x ≡ Some i
   found_at = sym e ∙ f
 
   pub found_below : k < 6 → i < count_of ws k
@@ -109,41 +108,41 @@ boundary_wide : (1 < width_of 1) × (coord_width_of 1 ≡ 192)
 unfolding width_of coord_width_of
 boundary_wide = (omega arith, refl)
 
-oriented_found : (m : Map) (x : ℕ) (t : Bool) (b : LineString) → boundary_of m x ≡ some b → oriented m (side_of x t) ≡ some (cond t (reversed b.geometry) b.geometry)
+oriented_found : (m : Map) (x : ℕ) (t : Bool) (b : LineString) → boundary_of m x ≡ Some b → oriented m (side_of x t) ≡ Some (cond t (reversed b.geometry) b.geometry)
 unfolding oriented
-oriented_found m x t b e = ap (λ (o : Option LineString). elim o [ none ↦ none | some d ↦ some (cond t (reversed d.geometry) d.geometry) ]) e
+oriented_found m x t b e = ap (λ (o : Option LineString). elim o [ None ↦ None | Some d ↦ Some (cond t (reversed d.geometry) d.geometry) ]) e
 
-pub nearest_none : (ws : List ℕ) (cs : List Float) (x : ℕ) (t : Bool) (p : Point2) (r : Found) → r ≡ lookup ws 1 x → r ≡ Nothing → none ≡ nearest_in (oriented (map_of ws cs) (side_of x t)) p
+pub nearest_none : (ws : List ℕ) (cs : List Float) (x : ℕ) (t : Bool) (p : Point2) (r : Found) → r ≡ lookup ws 1 x → r ≡ None → None ≡ nearest_in (oriented (map_of ws cs) (side_of x t)) p
 unfolding oriented boundary_of map_of
 nearest_none ws cs x t p r e f =
     let n = none_record (λ (l : LineString). l.num) line_string_in line_number ws cs 1 (omega arith) x (sym e ∙ f) in
-    sym (ap (λ (o : Option LineString). nearest_in (elim o [ none ↦ none | some d ↦ some (cond t (reversed d.geometry) d.geometry) ]) p) n)
+    sym (ap (λ (o : Option LineString). nearest_in (elim o [ None ↦ None | Some d ↦ Some (cond t (reversed d.geometry) d.geometry) ]) p) n)
 
-pub oriented_none : (ws : List ℕ) (cs : List Float) (x : ℕ) (t : Bool) (r : Found) (a : MaybeLine) → r ≡ lookup ws 1 x → r ≡ Nothing → LineRead none a
+pub oriented_none : (ws : List ℕ) (cs : List Float) (x : ℕ) (t : Bool) (r : Found) (a : MaybeLine) → r ≡ lookup ws 1 x → r ≡ None → LineRead None a
     → LineRead (oriented (map_of ws cs) (side_of x t)) a
 unfolding oriented boundary_of map_of
 oriented_none ws cs x t r a e f h =
     let n = none_record (λ (l : LineString). l.num) line_string_in line_number ws cs 1 (omega arith) x (sym e ∙ f) in
     record {
-      answer = h.answer ∙ sym (ap (λ (o : Option LineString). elim o [ none ↦ none | some d ↦ some (cond t (reversed d.geometry) d.geometry) ]) n);
+      answer = h.answer ∙ sym (ap (λ (o : Option LineString). elim o [ None ↦ None | Some d ↦ Some (cond t (reversed d.geometry) d.geometry) ]) n);
       room = h.room;
     }
 
 -- the points of boundary x, which stand in s
 pub record Along (ws : List ℕ) (cs : List Float) (x : ℕ) (s : List Float) : Type 0 where
-  pub is : oriented (map_of ws cs) (side_of x false) ≡ some (polyline_of s)
+  pub is : oriented (map_of ws cs) (side_of x false) ≡ Some (polyline_of s)
   pub few : length (polyline_of s) ≤ 64
 
-module _ (ws : List ℕ) (cs : List Float) (ok : Readable ws cs) (x i : ℕ) (r : Found) (e : r ≡ lookup ws 1 x) (f : r ≡ At i) where
-  pub boundary_word : SizedWords ws × (1 < 6) × (i < limit_of 1) × (1 < width_of 1)
-  boundary_word = (ok.words.sized, (omega arith), found_within ws 1 x i r e f ok.words.sized (omega arith), boundary_wide.0)
+module _ (ws : List ℕ) (cs : List Float) (ok : Readable ws cs) (x i : ℕ) (r : Found) (e : r ≡ lookup ws 1 x) (f : r ≡ Some i) where
+  pub boundary_word : SizedWords ws × (i < limit_of 1) × (1 < width_of 1)
+  boundary_word = (ok.words.sized, found_within ws 1 x i r e f ok.words.sized (omega arith), boundary_wide.0)
 
   module _ (w n : ℕ) (ew : w ≡ get_or (row_of ws 1 i) 1 0) (en : n ≡ w) where
     boundary_few : n ≤ 64
     boundary_few = let k = ok.words.boundary i (found_below ws 1 x i r e f (omega arith)) in omega arith
 
-    pub boundary_points : (length cs ≡ all_coords) × (1 < 6) × (i < limit_of 1) × (0 + n * 3 ≤ coord_width_of 1)
-    boundary_points = (ok.coords, omega arith, found_within ws 1 x i r e f ok.words.sized (omega arith), omega (arith, boundary_few, boundary_wide.1))
+    pub boundary_points : (length cs ≡ all_coords) × (i < limit_of 1) × (0 + n * 3 ≤ coord_width_of 1)
+    boundary_points = (ok.coords, found_within ws 1 x i r e f ok.words.sized (omega arith), omega (arith, boundary_few, boundary_wide.1))
 
     module _ (s : List Float) (es : polyline_of s ≡ line_at (coords_of cs 1 i) 0 n) where
       pub boundary_part : length s / 3 ≤ 64
@@ -156,7 +155,7 @@ module _ (ws : List ℕ) (cs : List Float) (ok : Readable ws cs) (x i : ℕ) (r 
       points_few : length (polyline_of s) ≤ 64
       points_few = omega (arith, length-points s, boundary_part)
 
-      oriented_is : (t : Bool) → oriented (map_of ws cs) (side_of x t) ≡ some (cond t (reversed (polyline_of s)) (polyline_of s))
+      oriented_is : (t : Bool) → oriented (map_of ws cs) (side_of x t) ≡ Some (cond t (reversed (polyline_of s)) (polyline_of s))
       unfolding boundary_of map_of
       oriented_is t =
           oriented_found (map_of ws cs) x t _ (found_record (λ (l : LineString). l.num) line_string_in line_number ws cs 1 (omega arith) x i (found_at ws 1 x i r e f))
@@ -170,13 +169,13 @@ module _ (ws : List ℕ) (cs : List Float) (ok : Readable ws cs) (x i : ℕ) (r 
       side_along t l w q h = record { answer = rw (oriented_is t, q, h); room = record { few = count_few l _ h points_few; long = w } }
 
       pub nearest_reversed : (t : Bool) (l : Line) (p : Point2) (o : Option NearestPoint) → t ≡ true → points_of l ≡ reversed (polyline_of s) → o ≡ nearest_point (points_of l) p
-          → some o ≡ nearest_in (oriented (map_of ws cs) (side_of x t)) p
+          → Some o ≡ nearest_in (oriented (map_of ws cs) (side_of x t)) p
       nearest_reversed t l p o q h k = rw (oriented_is t, q, k, h)
 
       pub reversed_room : (l : Line) → length l.coords ≡ 192 → points_of l ≡ reversed (polyline_of s) → Roomy l
       reversed_room l w h = record { few = count_few l _ h (omega (arith, length-reversed (polyline_of s), points_few)); long = w }
 
-      pub nearest_along : (t : Bool) (p : Point2) (o : Option NearestPoint) → t ≡ false → o ≡ nearest_point (polyline_of s) p → some o ≡ nearest_in (oriented (map_of ws cs) (side_of x t)) p
+      pub nearest_along : (t : Bool) (p : Point2) (o : Option NearestPoint) → t ≡ false → o ≡ nearest_point (polyline_of s) p → Some o ≡ nearest_in (oriented (map_of ws cs) (side_of x t)) p
       nearest_along t p o q k = rw (oriented_is t, q, k)
 
       pub stands_along : Along ws cs x s
@@ -188,7 +187,7 @@ flip : {A : Type 0} (b : Bool) (x y : A) → cond (not b) x y ≡ cond b y x
 flip true x y = refl
 flip false x y = refl
 
-center_few : (xs ys zs : Polyline) → centerline xs ys ≡ some zs → length xs ≤ 64 → length ys ≤ 64 → length zs ≤ 64
+center_few : (xs ys zs : Polyline) → centerline xs ys ≡ Some zs → length xs ≤ 64 → length ys ≤ 64 → length zs ≤ 64
 unfolding centerline
 center_few [] ys zs e h k = let z : ◌≡◌ {A = ℕ} 0 1 = cc in absurd (omega arith)
 center_few (x ∷ xs) [] zs e h k = let z : ◌≡◌ {A = ℕ} 0 1 = cc in absurd (omega arith)
@@ -198,23 +197,23 @@ center_few (x ∷ xs) (y ∷ ys) zs e h k =
     omega (arith, ap length q, length-list_to (middle (x ∷ xs) (y ∷ ys) n) n)
 
 -- a line that was made of two
-pub between_lines : (xs ys : Polyline) (c : Line) → line_option c ≡ centerline xs ys → length xs ≤ 64 → length ys ≤ 64 → length c.coords ≡ 192
-    → LineRead (between (some xs) (some ys)) (record { there = not (eqb c.count 0); line = c })
-unfolding between line_option
-between_lines xs ys c e h k w = record { answer = flip (eqb c.count 0) _ _ ∙ e; room = record { few = few (eqb c.count 0) refl; long = w } }
-  where
-    few : (z : Bool) → eqb c.count 0 ≡ z → c.count ≤ 64
-    few true q = let k = eqb-true c.count 0 q in omega arith
-    few false q =
-        let f : centerline xs ys ≡ some (points_of c) = sym e ∙ rw q in
-        count_few c (points_of c) refl (center_few xs ys (points_of c) f h k)
+module _ (xs ys : Polyline) (o : Option Line) (e : line_option o ≡ centerline xs ys) where
+  pub lines_apart : (r : MaybeLine) → o ≡ None → LineRead None r → LineRead (between (Some xs) (Some ys)) r
+  unfolding between line_option
+  lines_apart r q h = record { answer = h.answer ∙ sym (ap line_option q) ∙ e; room = h.room }
+
+  pub between_lines : (c : Line) → o ≡ Some c → length xs ≤ 64 → length ys ≤ 64 → length c.coords ≡ 192 → LineRead (between (Some xs) (Some ys)) (record { there = true; line = c })
+  unfolding between line_option
+  between_lines c q h k w =
+      let f : Some (points_of c) ≡ centerline xs ys = sym (ap line_option q) ∙ e in
+      record { answer = f; room = record { few = count_few c (points_of c) refl (center_few xs ys (points_of c) (sym f) h k); long = w } }
 
 module _ (a b : MaybeLine) where
-  pub no_left : (r : MaybeLine) → not a.there ≡ true → LineRead none r → LineRead (between (maybe_line a) (maybe_line b)) r
+  pub no_left : (r : MaybeLine) → not a.there ≡ true → LineRead None r → LineRead (between (maybe_line a) (maybe_line b)) r
   unfolding between
   no_left r t h = let f = not-true a.there t in record { answer = rw f h.answer; room = h.room }
 
-  pub no_right : (r : MaybeLine) → not a.there ≡ false → not b.there ≡ true → LineRead none r → LineRead (between (maybe_line a) (maybe_line b)) r
+  pub no_right : (r : MaybeLine) → not a.there ≡ false → not b.there ≡ true → LineRead None r → LineRead (between (maybe_line a) (maybe_line b)) r
   unfolding between
   no_right r s t h =
       let e = not-false a.there s in
@@ -228,41 +227,51 @@ module _ (a b : MaybeLine) where
       omega (arith, rb.few, rb.long, part_long b.line.coords b.line.count (omega (arith, rb.few, rb.long))),
     )
 
-    pub between_made : (c : Line)
-        → line_option c ≡ centerline (polyline_of (take (a.line.count * 3) a.line.coords)) (polyline_of (take (b.line.count * 3) b.line.coords))
-        → length c.coords ≡ 192 → not a.there ≡ false → not b.there ≡ false
-        → LineRead (between (maybe_line a) (maybe_line b)) (record { there = not (eqb c.count 0); line = c })
-    between_made c e w s t =
-        let f = not-false a.there s in
-        let g = not-false b.there t in
-        rw (f, g) (between_lines (points_of a.line) (points_of b.line) c (e ∙ ap₂ centerline (line_part_lem a.line ra) (line_part_lem b.line rb))
-        (omega (arith, length_line_points a.line, ra.few)) (omega (arith, length_line_points b.line, rb.few)) w)
+    module _ (o : Option Line)
+        (e : line_option o ≡ centerline (polyline_of (take (a.line.count * 3) a.line.coords)) (polyline_of (take (b.line.count * 3) b.line.coords)))
+        (s : not a.there ≡ false) (t : not b.there ≡ false) where
+      pub between_none : (r : MaybeLine) → o ≡ None → LineRead None r → LineRead (between (maybe_line a) (maybe_line b)) r
+      between_none r q h =
+          let f = not-false a.there s in
+          let g = not-false b.there t in
+          rw (f, g) (lines_apart (points_of a.line) (points_of b.line) o (e ∙ ap₂ centerline (line_part_lem a.line ra) (line_part_lem b.line rb)) r q h)
+
+      pub between_made : (c : Line) → o ≡ Some c → length c.coords ≡ 192 → LineRead (between (maybe_line a) (maybe_line b)) (record { there = true; line = c })
+      between_made c q w =
+          let f = not-false a.there s in
+          let g = not-false b.there t in
+          rw (f, g) (between_lines (points_of a.line) (points_of b.line) o (e ∙ ap₂ centerline (line_part_lem a.line ra) (line_part_lem b.line rb)) c q
+          (omega (arith, length_line_points a.line, ra.few)) (omega (arith, length_line_points b.line, rb.few)) w)
 
 -- ---- between sides that are read where they stand
 
-side_missing : (ws : List ℕ) (cs : List Float) (x : ℕ) (t : Bool) (r : Found) → r ≡ lookup ws 1 x → r ≡ Nothing → oriented (map_of ws cs) (side_of x t) ≡ none
+side_missing : (ws : List ℕ) (cs : List Float) (x : ℕ) (t : Bool) (r : Found) → r ≡ lookup ws 1 x → r ≡ None → oriented (map_of ws cs) (side_of x t) ≡ None
 unfolding oriented boundary_of map_of
 side_missing ws cs x t r e f =
     let n = none_record (λ (l : LineString). l.num) line_string_in line_number ws cs 1 (omega arith) x (sym e ∙ f) in
-    ap (λ (o : Option LineString). elim o [ none ↦ none | some d ↦ some (cond t (reversed d.geometry) d.geometry) ]) n
+    ap (λ (o : Option LineString). elim o [ None ↦ None | Some d ↦ Some (cond t (reversed d.geometry) d.geometry) ]) n
 
-module _ (ws : List ℕ) (cs : List Float) (x y : ℕ) (a : MaybeLine) (h : LineRead none a) where
-  pub along_no_left : (r : Found) → r ≡ lookup ws 1 x → r ≡ Nothing → LineRead (between (oriented (map_of ws cs) (side_of x false)) (oriented (map_of ws cs) (side_of y false))) a
+module _ (ws : List ℕ) (cs : List Float) (x y : ℕ) (a : MaybeLine) (h : LineRead None a) where
+  pub along_no_left : (r : Found) → r ≡ lookup ws 1 x → r ≡ None → LineRead (between (oriented (map_of ws cs) (side_of x false)) (oriented (map_of ws cs) (side_of y false))) a
   unfolding between
   along_no_left r e f = rw (side_missing ws cs x false r e f) h
 
-  pub along_no_right : (r : Found) → r ≡ lookup ws 1 y → r ≡ Nothing → LineRead (between (oriented (map_of ws cs) (side_of x false)) (oriented (map_of ws cs) (side_of y false))) a
+  pub along_no_right : (r : Found) → r ≡ lookup ws 1 y → r ≡ None → LineRead (between (oriented (map_of ws cs) (side_of x false)) (oriented (map_of ws cs) (side_of y false))) a
   unfolding between
   along_no_right r e f = rw (side_missing ws cs y false r e f) (go (oriented (map_of ws cs) (side_of x false)))
     where
-      go : (o : Option Polyline) → LineRead (between o none) a
-      go none = h
-      go (some l) = h
+      go : (o : Option Polyline) → LineRead (between o None) a
+      go None = h
+      go (Some l) = h
 
-pub along_made : (ws : List ℕ) (cs : List Float) (x y : ℕ) (s t : List Float) (c : Line) → Along ws cs x s → Along ws cs y t → line_option c ≡ centerline (polyline_of s) (polyline_of t)
-    → length c.coords ≡ 192
-    → LineRead (between (oriented (map_of ws cs) (side_of x false)) (oriented (map_of ws cs) (side_of y false))) (record { there = not (eqb c.count 0); line = c })
-along_made ws cs x y s t c p q e w = rw (p.is, q.is) (between_lines (polyline_of s) (polyline_of t) c e p.few q.few w)
+module _ (ws : List ℕ) (cs : List Float) (x y : ℕ) (s t : List Float) (p : Along ws cs x s) (q : Along ws cs y t) (o : Option Line)
+    (e : line_option o ≡ centerline (polyline_of s) (polyline_of t)) where
+  pub along_none : (r : MaybeLine) → o ≡ None → LineRead None r → LineRead (between (oriented (map_of ws cs) (side_of x false)) (oriented (map_of ws cs) (side_of y false))) r
+  along_none r z h = rw (p.is, q.is) (lines_apart (polyline_of s) (polyline_of t) o e r z h)
+
+  pub along_made : (c : Line) → o ≡ Some c → length c.coords ≡ 192
+      → LineRead (between (oriented (map_of ws cs) (side_of x false)) (oriented (map_of ws cs) (side_of y false))) (record { there = true; line = c })
+  along_made c z w = rw (p.is, q.is) (between_lines (polyline_of s) (polyline_of t) o e c z p.few q.few w)
 
 module _ (m : Map) (row : LaneRow) (r : MaybeLine) where
   pub turned_made : (a b : MaybeLine) → LineRead (oriented m (side_of row.left row.left_reversed)) a → LineRead (oriented m (side_of row.right row.right_reversed)) b
@@ -283,32 +292,37 @@ lane_many : limit_of 0 ≡ 64
 unfolding limit_of
 lane_many = refl
 
-line_same : (c : List Float) (n n' : ℕ) → some (line_at c 0 n) ≡ some (line_at c 0 n') → n ≡ n'
+line_same : (c : List Float) (n n' : ℕ) → Some (line_at c 0 n) ≡ Some (line_at c 0 n') → n ≡ n'
 line_same c n n' e =
     let q : line_at c 0 n ≡ line_at c 0 n' = cc in
     sym (length_line c 0 n) ∙ ap length q ∙ length_line c 0 n'
 
-stored_same : (c : List Float) (b b' : Bool) (n n' : ℕ) → cond b (some (line_at c 0 n)) none ≡ cond b' (some (line_at c 0 n')) none → b ≡ true → (b' ≡ true) × (n ≡ n')
-stored_same c true true n n' e t = (refl, line_same c n n' e)
-stored_same c true false n n' e t = let z : ◌≡◌ {A = ℕ} 0 1 = cc in absurd (omega arith)
-stored_same c false b' n n' e t = absurd (true≢false (sym t))
+stored_same : (c : List Float) (o : Found) (b : Bool) (n n' : ℕ) → centerline_of_row o c ≡ cond b (Some (line_at c 0 n')) None → o ≡ Some n → (b ≡ true) × (n ≡ n')
+stored_same c o true n n' e t = (refl, line_same c n n' (rw t at e))
+stored_same c o false n n' e t =
+    let q : Some (line_at c 0 n) ≡ None = rw t at e in
+    let z : ◌≡◌ {A = ℕ} 0 1 = cc in
+    absurd (omega arith)
 
 module _ (m : Map) (r : LaneRow) (c : List Float) where
-  stored_is : r.has_centerline ≡ true → centerline_of m (lane_of_row r c) ≡ some (line_at c 0 r.points)
-  unfolding centerline_of lane_of_row
-  stored_is t = ap {B = Option Polyline} (λ (b : Bool). elim (cond b (some (line_at c 0 r.points)) none) [ some l ↦ some l | none ↦ between (oriented m (side_of r.left r.left_reversed)) (oriented m (side_of r.right r.right_reversed)) ]) t
+  abbrev sides_line : Option Polyline
+  sides_line = between (oriented m (side_of r.left r.left_reversed)) (oriented m (side_of r.right r.right_reversed))
 
-  made_is : r.has_centerline ≡ false → centerline_of m (lane_of_row r c) ≡ between (oriented m (side_of r.left r.left_reversed)) (oriented m (side_of r.right r.right_reversed))
+  stored_is : (n : ℕ) → r.centerline ≡ Some n → centerline_of m (lane_of_row r c) ≡ Some (line_at c 0 n)
   unfolding centerline_of lane_of_row
-  made_is t = ap {B = Option Polyline} (λ (b : Bool). elim (cond b (some (line_at c 0 r.points)) none) [ some l ↦ some l | none ↦ between (oriented m (side_of r.left r.left_reversed)) (oriented m (side_of r.right r.right_reversed)) ]) t
+  stored_is n t = ap {B = Option Polyline} (λ (o : Found). elim (centerline_of_row o c) [ Some l ↦ Some l | None ↦ sides_line ]) t
 
-pub no_lane : (ws : List ℕ) (cs : List Float) (x : ℕ) (r : Found) (a : MaybeLine) → r ≡ lookup ws 0 x → r ≡ Nothing → LineRead none a → LineRead (lane_centerline (map_of ws cs) x) a
+  made_is : r.centerline ≡ None → centerline_of m (lane_of_row r c) ≡ between (oriented m (side_of r.left r.left_reversed)) (oriented m (side_of r.right r.right_reversed))
+  unfolding centerline_of lane_of_row
+  made_is t = ap {B = Option Polyline} (λ (o : Found). elim (centerline_of_row o c) [ Some l ↦ Some l | None ↦ sides_line ]) t
+
+pub no_lane : (ws : List ℕ) (cs : List Float) (x : ℕ) (r : Found) (a : MaybeLine) → r ≡ lookup ws 0 x → r ≡ None → LineRead None a → LineRead (lane_centerline (map_of ws cs) x) a
 unfolding lane_centerline lane_of map_of
 no_lane ws cs x r a e f h =
     let n = none_record (λ (l : Lane). l.num) lane_in lane_number ws cs 0 (omega arith) x (sym e ∙ f) in
-    record { answer = h.answer ∙ sym (ap (λ (o : Option Lane). elim o [ none ↦ none | some l ↦ centerline_of (map_of ws cs) l ]) n); room = h.room }
+    record { answer = h.answer ∙ sym (ap (λ (o : Option Lane). elim o [ None ↦ None | Some l ↦ centerline_of (map_of ws cs) l ]) n); room = h.room }
 
-module _ (ws : List ℕ) (cs : List Float) (ok : Readable ws cs) (x i : ℕ) (r : Found) (e : r ≡ lookup ws 0 x) (f : r ≡ At i) where
+module _ (ws : List ℕ) (cs : List Float) (ok : Readable ws cs) (x i : ℕ) (r : Found) (e : r ≡ lookup ws 0 x) (f : r ≡ Some i) where
   pub lane_row : SizedWords ws × (i < 64)
   lane_row = (ok.words.sized, omega (arith, found_within ws 0 x i r e f ok.words.sized (omega arith), lane_many))
 
@@ -316,19 +330,19 @@ module _ (ws : List ℕ) (cs : List Float) (ok : Readable ws cs) (x i : ℕ) (r 
     center_of_row : lane_centerline (map_of ws cs) x ≡ centerline_of (map_of ws cs) (lane_of_row row (coords_of cs 0 i))
     unfolding lane_centerline lane_of map_of
     center_of_row =
-        ap (λ (o : Option Lane). elim o [ none ↦ none | some l ↦ centerline_of (map_of ws cs) l ]) (found_record (λ (l : Lane). l.num) lane_in lane_number ws cs 0 (omega arith) x i (found_at ws 0 x i r e f))
+        ap (λ (o : Option Lane). elim o [ None ↦ None | Some l ↦ centerline_of (map_of ws cs) l ]) (found_record (λ (l : Lane). l.num) lane_in lane_number ws cs 0 (omega arith) x i (found_at ws 0 x i r e f))
         ∙ ap (centerline_of (map_of ws cs)) (sym (read.lane (coords_of cs 0 i)))
 
-    module _ (t : row.has_centerline ≡ true) (n : ℕ) (en : n ≡ row.points) where
+    module _ (m : ℕ) (t : row.centerline ≡ Some m) (n : ℕ) (en : n ≡ m) where
       stored_few : n ≤ 64
       unfolding lane_of_row lane_in
       stored_few =
-          let q = stored_same (coords_of cs 0 i) _ _ _ _ (ap (λ (l : Lane). l.centerline) (read.lane (coords_of cs 0 i))) t in
+          let q = stored_same (coords_of cs 0 i) _ _ m _ (ap (λ (l : Lane). l.centerline) (read.lane (coords_of cs 0 i))) t in
           let k = ok.words.center i (found_below ws 0 x i r e f (omega arith)) q.0 in
           omega (arith, q.1)
 
-      pub stored_points : (length cs ≡ all_coords) × (0 < 6) × (i < limit_of 0) × (0 + n * 3 ≤ coord_width_of 0)
-      stored_points = (ok.coords, omega arith, found_within ws 0 x i r e f ok.words.sized (omega arith), omega (arith, stored_few, lane_wide))
+      pub stored_points : (length cs ≡ all_coords) × (i < limit_of 0) × (0 + n * 3 ≤ coord_width_of 0)
+      stored_points = (ok.coords, found_within ws 0 x i r e f ok.words.sized (omega arith), omega (arith, stored_few, lane_wide))
 
       module _ (s : List Float) (es : polyline_of s ≡ line_at (coords_of cs 0 i) 0 n) where
         pub stored_part : length s / 3 ≤ 64
@@ -337,9 +351,9 @@ module _ (ws : List ℕ) (cs : List Float) (ok : Readable ws cs) (x i : ℕ) (r 
         pub stored_line : (l : Line) → length l.coords ≡ 192 → points_of l ≡ polyline_of s → LineRead (lane_centerline (map_of ws cs) x) (record { there = true; line = l })
         stored_line l w h =
             record {
-              answer = ap some (h ∙ es ∙ ap (line_at (coords_of cs 0 i) 0) en) ∙ sym (center_of_row ∙ stored_is (map_of ws cs) row (coords_of cs 0 i) t);
+              answer = ap Some (h ∙ es ∙ ap (line_at (coords_of cs 0 i) 0) en) ∙ sym (center_of_row ∙ stored_is (map_of ws cs) row (coords_of cs 0 i) m t);
               room = record { few = count_few l _ h (omega (arith, length-points s, stored_part)); long = w };
             }
 
-    pub made_line : (c : MaybeLine) → row.has_centerline ≡ false → LineRead (between_sides (map_of ws cs) row) c → LineRead (lane_centerline (map_of ws cs) x) c
+    pub made_line : (c : MaybeLine) → row.centerline ≡ None → LineRead (between_sides (map_of ws cs) row) c → LineRead (lane_centerline (map_of ws cs) x) c
     made_line c t h = record { answer = h.answer ∙ sym (center_of_row ∙ made_is (map_of ws cs) row (coords_of cs 0 i) t); room = h.room }

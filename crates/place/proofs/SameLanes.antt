@@ -2,7 +2,7 @@
 use Prim.Native.Nat.{ℕ}
 use mathlib.Core.Path.{◌≡◌, refl, ap, subst}
 use mathlib.Core.Bool.{true, cond}
-use mathlib.Core.Option.{Option, none, some}
+use Rattle.std.specs.Prelude.{Option, None, Some}
 use mathlib.Core.List.{List, [], ◌∷◌}
 use lib.Dec.{eqb}
 use lib.Ieee.{Float}
@@ -39,7 +39,7 @@ later k ns j e = or_r (eqb k j) e
 
 pub oriented_same : (m n : Map) (s : BoundaryRef) → boundary_of m s.boundary ≡ boundary_of n s.boundary → oriented m s ≡ oriented n s
 unfolding oriented
-oriented_same m n s e = ap (λ (o : Option LineString). elim o [ none ↦ none | some b ↦ some (cond s.reversed (reversed b.geometry) b.geometry) ]) e
+oriented_same m n s e = ap (λ (o : Option LineString). elim o [ None ↦ None | Some b ↦ Some (cond s.reversed (reversed b.geometry) b.geometry) ]) e
 
 -- what placing reads of a lane that is there
 pub record SameSides (m n : Map) (l : Lane) : Type 0 where
@@ -48,19 +48,19 @@ pub record SameSides (m n : Map) (l : Lane) : Type 0 where
 
 pub record SameLane (m n : Map) (k : ℕ) : Type 0 where
   pub lane : lane_of m k ≡ lane_of n k
-  pub sides : (l : Lane) → lane_of m k ≡ some l → SameSides m n l
+  pub sides : (l : Lane) → lane_of m k ≡ Some l → SameSides m n l
 
 -- of each lane of a list
 abbrev pub SameLanes : Map → Map → List ℕ → Type 0
 SameLanes m n ls = (k : ℕ) → member k ls ≡ true → SameLane m n k
 
 -- what is worked out of the lane, where it is there
-by_lane : {A : Type 0} (m n : Map) (k : ℕ) (f g : Option Lane → A) → SameLane m n k → f none ≡ g none → ((l : Lane) → SameSides m n l → f (some l) ≡ g (some l)) → f (lane_of m k) ≡ g (lane_of n k)
+by_lane : {A : Type 0} (m n : Map) (k : ℕ) (f g : Option Lane → A) → SameLane m n k → f None ≡ g None → ((l : Lane) → SameSides m n l → f (Some l) ≡ g (Some l)) → f (lane_of m k) ≡ g (lane_of n k)
 by_lane {A} m n k f g b none-same some_same = subst (λ (o : Option Lane). f (lane_of m k) ≡ g o) b.lane (go (lane_of m k) refl)
   where
     go : (o : Option Lane) → lane_of m k ≡ o → f o ≡ g o
-    go none q = none-same
-    go (some l) q = some_same l (b.sides l q)
+    go None q = none-same
+    go (Some l) q = some_same l (b.sides l q)
 
 -- what comes after an answer that is the same
 after : {A B : Type 0} {f g : A → Answer B} (x : Answer A) → ((a : A) → f a ≡ g a) → (x >>= f) ≡ (x >>= g)
@@ -74,12 +74,12 @@ unfolding centerline_of
 center_of m n l s = go l.centerline
   where
     go : (o : Option Polyline)
-        → ◌≡◌ {A = Option Polyline} (elim o [ some c ↦ some c | none ↦ between (oriented m l.left) (oriented m l.right) ]) (elim o [ some c ↦ some c | none ↦ between (oriented n l.left) (oriented n l.right) ])
-    go none = rw (s.left, s.right)
-    go (some c) = refl
+        → ◌≡◌ {A = Option Polyline} (elim o [ Some c ↦ Some c | None ↦ between (oriented m l.left) (oriented m l.right) ]) (elim o [ Some c ↦ Some c | None ↦ between (oriented n l.left) (oriented n l.right) ])
+    go None = rw (s.left, s.right)
+    go (Some c) = refl
 
 center_at : Map → Option Lane → Option Polyline
-center_at m o = elim o [ none ↦ none | some l ↦ centerline_of m l ]
+center_at m o = elim o [ None ↦ None | Some l ↦ centerline_of m l ]
 
 center_same : (m n : Map) (k : ℕ) → SameLane m n k → lane_centerline m k ≡ lane_centerline n k
 unfolding lane_centerline center_at
@@ -113,7 +113,7 @@ module _ (m n : Map) (ls : List ℕ) (h : SameLanes m n ls) where
       (after (present (lane_centerline n k) 6 (1 ∷ [])) (λ c.
       after (present (point_at c x) 6 (2 ∷ [])) (λ p.
       after (present (direction_at c x) 6 (3 ∷ [])) (λ d.
-      rw (lanes_same m n p (perp d) ls (record { left = none; right = none }) h)))))
+      rw (lanes_same m n p (perp d) ls (record { left = None; right = None }) h)))))
 
   at_same : (k : ℕ) (len x : Float) → SameLane m n k → place_at m ls k len x ≡ place_at n ls k len x
   unfolding place_at
@@ -132,7 +132,7 @@ unfolding unknown_in first_of lane_of
 known_same m n [] h = refl
 known_same m n (k ∷ ls) h =
     rw (holds_found (λ (l : Lane). l.num) k m.lanes, holds_found (λ (l : Lane). l.num) k n.lanes, (h k (here k ls)).lane)
-    (ap (or_else (cond (is_some (find (λ (l : Lane). l.num) k n.lanes)) none (some k))) (known_same m n ls (λ j e. h j (later k ls j e))))
+    (ap (or_else (cond (is_some (find (λ (l : Lane). l.num) k n.lanes)) None (Some k))) (known_same m n ls (λ j e. h j (later k ls j e))))
 
 checked_same : (m n : Map) (ls : List ℕ) → SameLanes m n ls → check_lane_list m ls ≡ check_lane_list n ls
 unfolding check_lane_list

@@ -2,7 +2,6 @@
 use Prim.Native.Nat.{ℕ, suc, ◌+◌, ◌*◌, ◌≤◌, ◌<◌}
 use mathlib.Core.Path.{◌≡◌, refl, sym, ap, ◌∙◌}
 use mathlib.Core.Bool.{Bool, true, false, not, cond}
-use mathlib.Core.Option.{Option, none, some}
 use mathlib.Core.List.{List, [], ◌∷◌}
 use native.Mathlib.Numerals.{add-one}
 use native.Mathlib.Omega.{arith}
@@ -14,20 +13,14 @@ use Rattle.refusal.specs.Answer.{Answer, refused, done, ◌>>=◌, present}
 use Rattle.geometry.specs.declared.Point2.{Point2}
 use Rattle.geometry.specs.declared.Point3.{Point3}
 use Rattle.geometry.specs.declared.NearestPoint.{NearestPoint}
-use Rattle.geometry.specs.declared.MaybePoint2.{MaybePoint2}
-use Rattle.geometry.specs.declared.MaybePoint2.TheVariants as p2
-use Rattle.geometry.specs.declared.MaybePoint3.{MaybePoint3}
-use Rattle.geometry.specs.declared.MaybePoint3.TheVariants as p3
-use Rattle.geometry.specs.declared.MaybeNearest.TheVariants as near
 use Rattle.geometry.specs.Double.{◌⊖◌, milli}
-use Rattle.geometry.specs.Maybe.{maybe_point2, maybe_point3, maybe_nearest}
 use Rattle.geometry.specs.Point.{xy, sub2, dot, perp}
 use Rattle.geometry.specs.Polyline.{Polyline, polyline_of, point_at, direction_at, nearest_point}
 use Rattle.centerline.specs.declared.Line.{Line}
 use Rattle.centerline.specs.Line.{points_of}
 use Rattle.store.specs.Layout.{row_of, coords_of}
-use Rattle.map.specs.declared.Found.{Found}
-use Rattle.map.specs.declared.Found.TheVariants.{At, Nothing}
+use Rattle.map.specs.Access.{Found}
+use Rattle.std.specs.Prelude.{Some, None, Option}
 use Rattle.map.specs.declared.LaneRow.{LaneRow}
 use Rattle.map.specs.Record.{BoundaryRef, Lane, Map}
 use Rattle.map.specs.Lookup.{lane_of, oriented}
@@ -38,11 +31,7 @@ use Rattle.place.specs.declared.LaneSide.TheVariants.{Left, Right}
 use Rattle.place.specs.declared.EndName.{EndName}
 use Rattle.place.specs.declared.SideNearest.{SideNearest}
 use Rattle.place.specs.declared.SectionEnd.{SectionEnd}
-use Rattle.place.specs.declared.MaybeEnd.{MaybeEnd}
-use Rattle.place.specs.declared.MaybeEnd.TheVariants as e
 use Rattle.place.specs.declared.SectionEnds.{SectionEnds}
-use Rattle.place.specs.declared.Walked.{Walked}
-use Rattle.place.specs.declared.Walked.TheVariants as w
 use Rattle.place.specs.Place.{Ends, Section, outer, widened, with_side, with_lane, with_lanes, section, cross_section, lane_centerline}
 use Rattle.place.specs.Steps.{outer_left, outer_right, no_ends, NamedSide, with_sides, section_on}
 use Rattle.place.specs.Values.{Roomy, side_of, sides_of, no_side, side_nearest, nearest_in, end_of, maybe_end, ends_of, walked}
@@ -50,23 +39,23 @@ use Rattle.place.proofs.LineLaws.{line_part_lem}
 
 -- ---- ends
 
-module _ (beats : Float → Float → Bool) (best : MaybeEnd) (x : SectionEnd) where
-  pub outer_none : best ≡ e.Nothing → some (end_of x) ≡ outer beats (maybe_end best) (end_of x)
+module _ (beats : Float → Float → Bool) (best : Option SectionEnd) (x : SectionEnd) where
+  pub outer_none : best ≡ None → Some (end_of x) ≡ outer beats (maybe_end best) (end_of x)
   unfolding outer
   outer_none q = rw q
 
-  module _ (b : SectionEnd) (q : best ≡ e.At b) where
-    pub outer_new : beats x.lateral b.lateral ≡ true → some (end_of x) ≡ outer beats (maybe_end best) (end_of x)
+  module _ (b : SectionEnd) (q : best ≡ Some b) where
+    pub outer_new : beats x.lateral b.lateral ≡ true → Some (end_of x) ≡ outer beats (maybe_end best) (end_of x)
     unfolding outer
     outer_new t = rw (q, t)
 
-    pub outer_old : beats x.lateral b.lateral ≡ false → some (end_of b) ≡ outer beats (maybe_end best) (end_of x)
+    pub outer_old : beats x.lateral b.lateral ≡ false → Some (end_of b) ≡ outer beats (maybe_end best) (end_of x)
     unfolding outer
     outer_old t = rw (q, t)
 
-pub widened_is : (p : Point3) (normal : Point2) (x : EndName) (n : NearestPoint) (es : SectionEnds) (u v w : Point2) (d : Float) (l r : MaybeEnd) → u ≡ xy n.point → v ≡ xy p → w ≡ sub2 u v → d ≡ dot normal w
+pub widened_is : (p : Point3) (normal : Point2) (x : EndName) (n : NearestPoint) (es : SectionEnds) (u v w : Point2) (d : Float) (l r : Option SectionEnd) → u ≡ xy n.point → v ≡ xy p → w ≡ sub2 u v → d ≡ dot normal w
     → maybe_end l ≡ outer_left (maybe_end es.left) (record { lateral = d; point = n.point; name = x }) → maybe_end r ≡ outer_right (maybe_end es.right) (record { lateral = d; point = n.point; name = x })
-    → record { left = maybe_end l; right = maybe_end r } ≡ widened p normal x (some n) (ends_of es)
+    → record { left = maybe_end l; right = maybe_end r } ≡ widened p normal x (Some n) (ends_of es)
 unfolding widened
 widened_is p normal x n es u v w d l r eu ev ew ed el er = rw (el, er, ed, ew, eu, ev)
 
@@ -75,10 +64,10 @@ nearest_is l p o h e = e ∙ ap (λ (xs : Polyline). nearest_point xs p) (line_p
 
 -- ---- sides
 
-none_some : {x : Option NearestPoint} → ◌≡◌ {A = Option (Option NearestPoint)} none (some x) → ⊥
+none_some : {x : Option NearestPoint} → ◌≡◌ {A = Option (Option NearestPoint)} None (Some x) → ⊥
 none_some e = let z : ◌≡◌ {A = ℕ} 0 1 = cc in omega arith
 
-some_same : {x y : Option NearestPoint} → some x ≡ some y → x ≡ y
+some_same : {x y : Option NearestPoint} → Some x ≡ Some y → x ≡ y
 some_same e = cc
 
 module _ (row : LaneRow) (k : ℕ) where
@@ -89,11 +78,11 @@ module _ (row : LaneRow) (k : ℕ) where
   side_right h q = let r : k ≡ 1 = omega (arith, q) in rw r
 
 module _ (m : Map) (p : Point3) (normal : Point2) (x : EndName) (s : BoundaryRef) (es : Ends) where
-  side_none : oriented m s ≡ none → with_side m p normal x s es ≡ refused 6 (4 ∷ [])
+  side_none : oriented m s ≡ None → with_side m p normal x s es ≡ refused 6 (4 ∷ [])
   unfolding with_side
   side_none q = rw q
 
-  side_some : (b : Polyline) → oriented m s ≡ some b → with_side m p normal x s es ≡ done (widened p normal x (nearest_point b (xy p)) es)
+  side_some : (b : Polyline) → oriented m s ≡ Some b → with_side m p normal x s es ≡ done (widened p normal x (nearest_point b (xy p)) es)
   unfolding with_side
   side_some b q = rw q
 
@@ -117,20 +106,20 @@ module _ (m : Map) (p : Point3) (normal : Point2) (lane : ℕ) (row : LaneRow) (
     step = inv.goes ∙ rw (drop-cons (sides_of row) k no_side h, ← e)
 
     missing : (o : Option Polyline) → oriented m s.boundary ≡ o → b.there ≡ false → side_nearest b ≡ nearest_in o q → with_side m p normal (record { lane = lane; side = s.side }) s.boundary es ≡ refused 6 (4 ∷ [])
-    missing none g f w = side_none m p normal (record { lane = lane; side = s.side }) s.boundary es g
-    missing (some l) g f w = absurd (none_some (sym (ap (λ (t : Bool). cond t (some (maybe_nearest b.nearest)) none) f) ∙ w))
+    missing None g f w = side_none m p normal (record { lane = lane; side = s.side }) s.boundary es g
+    missing (Some l) g f w = absurd (none_some (sym (ap (λ (t : Bool). cond t (Some b.nearest) None) f) ∙ w))
 
     pub siding_missing : not b.there ≡ true → refused 6 (4 ∷ []) ≡ with_sides m p normal lane (sides_of row) first
     siding_missing t = sym (step ∙ rw (missing (oriented m s.boundary) refl (not-true b.there t) read))
 
     one : (o : Option Polyline) → oriented m s.boundary ≡ o → b.there ≡ true → side_nearest b ≡ nearest_in o q
-        → with_side m p normal (record { lane = lane; side = s.side }) s.boundary es ≡ done (widened p normal (record { lane = lane; side = s.side }) (maybe_nearest b.nearest) es)
-    one none g f w = absurd (none_some (sym w ∙ ap (λ (t : Bool). cond t (some (maybe_nearest b.nearest)) none) f))
-    one (some l) g f w =
+        → with_side m p normal (record { lane = lane; side = s.side }) s.boundary es ≡ done (widened p normal (record { lane = lane; side = s.side }) b.nearest es)
+    one None g f w = absurd (none_some (sym w ∙ ap (λ (t : Bool). cond t (Some b.nearest) None) f))
+    one (Some l) g f w =
         side_some m p normal (record { lane = lane; side = s.side }) s.boundary es l g
-        ∙ ap (λ (o : Option NearestPoint). done (widened p normal (record { lane = lane; side = s.side }) o es)) (sym (some_same (sym (ap (λ (t : Bool). cond t (some (maybe_nearest b.nearest)) none) f) ∙ w) ∙ ap (nearest_point l) eq))
+        ∙ ap (λ (o : Option NearestPoint). done (widened p normal (record { lane = lane; side = s.side }) o es)) (sym (some_same (sym (ap (λ (t : Bool). cond t (Some b.nearest) None) f) ∙ w) ∙ ap (nearest_point l) eq))
 
-    next : (o : Option NearestPoint) → not b.there ≡ false → maybe_nearest b.nearest ≡ o → Siding m p normal lane row first (widened p normal (record { lane = lane; side = s.side }) o es) (k + 1)
+    next : (o : Option NearestPoint) → not b.there ≡ false → b.nearest ≡ o → Siding m p normal lane row first (widened p normal (record { lane = lane; side = s.side }) o es) (k + 1)
     next o t w =
         record {
           within = omega arith;
@@ -140,12 +129,12 @@ module _ (m : Map) (p : Point3) (normal : Point2) (lane : ℕ) (row : LaneRow) (
         }
 
     module _ (t : not b.there ≡ false) where
-      pub siding_past : b.nearest ≡ near.Nothing → Siding m p normal lane row first es (k + 1)
+      pub siding_past : b.nearest ≡ None → Siding m p normal lane row first es (k + 1)
       unfolding widened
-      siding_past z = next none t (ap maybe_nearest z)
+      siding_past z = next None t z
 
-      pub siding_taken : (c : NearestPoint) (es' : Ends) → b.nearest ≡ near.At c → es' ≡ widened p normal (record { lane = lane; side = s.side }) (some c) es → Siding m p normal lane row first es' (k + 1)
-      siding_taken c es' z y = rw y (next (some c) t (ap maybe_nearest z))
+      pub siding_taken : (c : NearestPoint) (es' : Ends) → b.nearest ≡ Some c → es' ≡ widened p normal (record { lane = lane; side = s.side }) (Some c) es → Siding m p normal lane row first es' (k + 1)
+      siding_taken c es' z y = rw y (next (Some c) t z)
 
 -- ---- lanes
 
@@ -154,14 +143,14 @@ again (refused n ds) = refl
 again (done x) = refl
 
 module _ (ws : List ℕ) (cs : List Float) (p : Point3) (normal : Point2) (x : ℕ) (es : Ends) (r : Found) (e : r ≡ lookup ws 0 x) where
-  pub lane_missing : r ≡ Nothing → refused 6 (4 ∷ []) ≡ with_lane (map_of ws cs) p normal x es
+  pub lane_missing : r ≡ None → refused 6 (4 ∷ []) ≡ with_lane (map_of ws cs) p normal x es
   unfolding with_lane lane_of map_of
   lane_missing f = rw (none_record (λ (l : Lane). l.num) lane_in lane_number ws cs 0 (omega arith) x (sym e ∙ f))
 
-  module _ (i : ℕ) (f : r ≡ At i) (row : LaneRow) (read : LaneRead (row_of ws 0 i) row) where
-    found : lane_of (map_of ws cs) x ≡ some (lane_of_row row (coords_of cs 0 i))
+  module _ (i : ℕ) (f : r ≡ Some i) (row : LaneRow) (read : LaneRead (row_of ws 0 i) row) where
+    found : lane_of (map_of ws cs) x ≡ Some (lane_of_row row (coords_of cs 0 i))
     unfolding lane_of map_of
-    found = found_record (λ (l : Lane). l.num) lane_in lane_number ws cs 0 (omega arith) x i (sym e ∙ f) ∙ ap some (sym (read.lane (coords_of cs 0 i)))
+    found = found_record (λ (l : Lane). l.num) lane_in lane_number ws cs 0 (omega arith) x i (sym e ∙ f) ∙ ap Some (sym (read.lane (coords_of cs 0 i)))
 
     pub lane_sides : (a : Answer Ends) → a ≡ with_sides (map_of ws cs) p normal x (sides_of row) es → a ≡ with_lane (map_of ws cs) p normal x es
     unfolding with_lane with_sides lane_of_row
@@ -186,15 +175,15 @@ module _ (m : Map) (p : Point3) (normal : Point2) (lanes : List ℕ) (es : Ends)
   unfolding with_lanes
   laning_end h = sym (inv.goes ∙ rw (drop_of_length-le lanes h))
 
-  module _ (h : i < length lanes) (r : Walked) (e : walked r ≡ with_lane m p normal (get_or lanes i 0) es) where
+  module _ (h : i < length lanes) (r : Option SectionEnds) (e : walked r ≡ with_lane m p normal (get_or lanes i 0) es) where
     lane_step : with_lanes m p normal lanes no_ends ≡ (walked r >>= λ one. with_lanes m p normal (drop (suc i) lanes) one)
     unfolding with_lanes
     lane_step = inv.goes ∙ rw (drop-cons lanes i 0 h, ← e)
 
-    pub laning_missing : r ≡ w.Missing → refused 6 (4 ∷ []) ≡ with_lanes m p normal lanes no_ends
+    pub laning_missing : r ≡ None → refused 6 (4 ∷ []) ≡ with_lanes m p normal lanes no_ends
     laning_missing q = sym (lane_step ∙ rw q)
 
-    pub laning_next : (x : SectionEnds) → r ≡ w.Ends x → Laning m p normal lanes (ends_of x) (i + 1)
+    pub laning_next : (x : SectionEnds) → r ≡ Some x → Laning m p normal lanes (ends_of x) (i + 1)
     laning_next x q =
         record {
           within = omega arith;
@@ -203,17 +192,17 @@ module _ (m : Map) (p : Point3) (normal : Point2) (lanes : List ℕ) (es : Ends)
 
 -- ---- the section
 
-module _ (l r : MaybeEnd) where
-  pub section_left : l ≡ e.Nothing → refused 6 (5 ∷ []) ≡ section (maybe_end l) (maybe_end r)
+module _ (l r : Option SectionEnd) where
+  pub section_left : l ≡ None → refused 6 (5 ∷ []) ≡ section (maybe_end l) (maybe_end r)
   unfolding section
   section_left q = rw q
 
-  module _ (a : SectionEnd) (ql : l ≡ e.At a) where
-    pub section_right : r ≡ e.Nothing → refused 6 (5 ∷ []) ≡ section (maybe_end l) (maybe_end r)
+  module _ (a : SectionEnd) (ql : l ≡ Some a) where
+    pub section_right : r ≡ None → refused 6 (5 ∷ []) ≡ section (maybe_end l) (maybe_end r)
     unfolding section
     section_right q = rw (ql, q)
 
-    module _ (b : SectionEnd) (qr : r ≡ e.At b) where
+    module _ (b : SectionEnd) (qr : r ≡ Some b) where
       pub section_wide : lt milli (a.lateral ⊖ b.lateral) ≡ true → done (record { points = a.point ∷ b.point ∷ []; names = record { left = a.name; right = b.name } }) ≡ section (maybe_end l) (maybe_end r)
       unfolding section
       section_wide t = rw (ql, qr, t)
@@ -222,22 +211,22 @@ module _ (l r : MaybeEnd) where
       unfolding section
       section_narrow t = rw (ql, qr, t)
 
-module _ (m : Map) (c : Polyline) (s : Float) (lanes : List ℕ) (o : MaybePoint3) (eo : maybe_point3 o ≡ point_at c s) where
-  pub on_nothing : o ≡ p3.Nothing → refused 6 (2 ∷ []) ≡ section_on m c s lanes
+module _ (m : Map) (c : Polyline) (s : Float) (lanes : List ℕ) (o : Option Point3) (eo : o ≡ point_at c s) where
+  pub on_nothing : o ≡ None → refused 6 (2 ∷ []) ≡ section_on m c s lanes
   unfolding section_on
   on_nothing q = rw (← eo, q)
 
-  module _ (p : Point3) (qp : o ≡ p3.At p) (u : MaybePoint2) (eu : maybe_point2 u ≡ direction_at c s) where
-    pub no_direction : u ≡ p2.Nothing → refused 6 (3 ∷ []) ≡ section_on m c s lanes
+  module _ (p : Point3) (qp : o ≡ Some p) (u : Option Point2) (eu : u ≡ direction_at c s) where
+    pub no_direction : u ≡ None → refused 6 (3 ∷ []) ≡ section_on m c s lanes
     unfolding section_on
     no_direction q = rw (← eo, qp, ← eu, q)
 
-    module _ (d : Point2) (qd : u ≡ p2.At d) (n : Point2) (en : n ≡ perp d) (v : Walked) (ev : walked v ≡ with_lanes m p n lanes no_ends) where
-      pub no_boundary : v ≡ w.Missing → refused 6 (4 ∷ []) ≡ section_on m c s lanes
+    module _ (d : Point2) (qd : u ≡ Some d) (n : Point2) (en : n ≡ perp d) (v : Option SectionEnds) (ev : walked v ≡ with_lanes m p n lanes no_ends) where
+      pub no_boundary : v ≡ None → refused 6 (4 ∷ []) ≡ section_on m c s lanes
       unfolding section_on
       no_boundary q = rw (← eo, qp, ← eu, qd, ← en, ← ev, q)
 
-      pub section_is : (x : SectionEnds) (a : Answer Section) → v ≡ w.Ends x → a ≡ section (maybe_end x.left) (maybe_end x.right) → a ≡ section_on m c s lanes
+      pub section_is : (x : SectionEnds) (a : Answer Section) → v ≡ Some x → a ≡ section (maybe_end x.left) (maybe_end x.right) → a ≡ section_on m c s lanes
       unfolding section_on
       section_is x a q h = rw (← eo, qp, ← eu, qd, ← en, ← ev, q) h
 

@@ -1,6 +1,5 @@
 -- What is said of the ends of a cross-section: which boundary each name stands for, and why it is that one.
-use Rattle.std.specs.Prelude.{ℕ, ◌≡◌, Bool, true, not, List, [], ◌∷◌, ◌++◌, Float, get_or}
-use Rattle.std.proofs.Math.Option.{Option, none, some}
+use Rattle.std.specs.Prelude.{ℕ, ◌≡◌, Bool, true, not, List, [], ◌∷◌, ◌++◌, Float, get_or, Option, None, Some}
 use Rattle.std.specs.Float.Ieee.{lt, le}
 use Rattle.rows.specs.Lists.{every, member}
 use Rattle.geometry.specs.declared.Point2.{Point2}
@@ -27,7 +26,7 @@ side_at l Right = l.right
 
 -- the points of the boundary that a name stands for, along its lane
 unfoldable pub side_named : Map → EndName → Option Polyline
-side_named m x = elim (lane_of m x.lane) [ none ↦ none | some l ↦ oriented m (side_at l x.side) ]
+side_named m x = elim (lane_of m x.lane) [ None ↦ None | Some l ↦ oriented m (side_at l x.side) ]
 
 -- in words: whether the ends are named, lane and side of the left one, lane and side of the right one
 abbrev pub side_number : LaneSide → ℕ
@@ -35,18 +34,18 @@ side_number Left = 0
 side_number Right = 1
 
 abbrev pub ends_words : Option SectionNames → List ℕ
-ends_words none = 0 ∷ 0 ∷ 0 ∷ 0 ∷ 0 ∷ []
-ends_words (some x) = 1 ∷ x.left.lane ∷ side_number x.left.side ∷ x.right.lane ∷ side_number x.right.side ∷ []
+ends_words None = 0 ∷ 0 ∷ 0 ∷ 0 ∷ 0 ∷ []
+ends_words (Some x) = 1 ∷ x.left.lane ∷ side_number x.left.side ∷ x.right.lane ∷ side_number x.right.side ∷ []
 
 -- ---- candidates: each lane of the list in its order, left before right; a boundary without points is left out
 
 unfoldable pub candidate_at : Point3 → Point2 → EndName → Option NearestPoint → List End
-candidate_at p normal x none = []
-candidate_at p normal x (some n) = record { lateral = dot normal (sub2 (xy n.point) (xy p)); point = n.point; name = x } ∷ []
+candidate_at p normal x None = []
+candidate_at p normal x (Some n) = record { lateral = dot normal (sub2 (xy n.point) (xy p)); point = n.point; name = x } ∷ []
 
 unfoldable pub candidate_on : Point3 → Point2 → EndName → Option Polyline → List End
-candidate_on p normal x none = []
-candidate_on p normal x (some b) = candidate_at p normal x (nearest_point b (xy p))
+candidate_on p normal x None = []
+candidate_on p normal x (Some b) = candidate_at p normal x (nearest_point b (xy p))
 
 unfoldable pub candidate : Map → Point3 → Point2 → EndName → List End
 candidate m p normal x = candidate_on p normal x (side_named m x)
@@ -61,9 +60,9 @@ candidates m p normal (n ∷ ns) = candidate m p normal (record { lane = n; side
 pub record IsNamed (m : Map) (p : Point3) (normal : Point2) (lanes : List ℕ) (e : End) : Type 0 where
   pub listed : member e.name.lane lanes ≡ true
   pub line : Polyline
-  pub along : side_named m e.name ≡ some line
+  pub along : side_named m e.name ≡ Some line
   pub nearest : NearestPoint
-  pub near : nearest_point line (xy p) ≡ some nearest
+  pub near : nearest_point line (xy p) ≡ Some nearest
   pub point : e.point ≡ nearest.point
   pub lateral : e.lateral ≡ dot normal (sub2 (xy e.point) (xy p))
 
@@ -88,11 +87,11 @@ IsRightmost = IsFirst lt le
 pub record Named (m : Map) (reference : ℕ) (station : Float) (lanes : List ℕ) (x : Section) : Type 0 where
   -- the point of the centreline, and the direction there
   pub center : Polyline
-  pub center_is : lane_centerline m reference ≡ some center
+  pub center_is : lane_centerline m reference ≡ Some center
   pub origin : Point3
-  pub origin_is : point_at center station ≡ some origin
+  pub origin_is : point_at center station ≡ Some origin
   pub direction : Point2
-  pub direction_is : direction_at center station ≡ some direction
+  pub direction_is : direction_at center station ≡ Some direction
   -- the ends
   pub left : End
   pub right : End
@@ -107,11 +106,11 @@ pub record Named (m : Map) (reference : ℕ) (station : Float) (lanes : List ℕ
 pub record Drawn (m : Map) (lanes : List ℕ) (p : Placed) : Type 0 where
   pub station : Float
   pub names : SectionNames
-  pub ends : p.ends ≡ some names
+  pub ends : p.ends ≡ Some names
   pub named : Named m (get_or lanes 0 0) station lanes (record { points = p.points; names = names })
 
 -- which placements name ends
 abbrev pub EndsBy : Placement → Map → List ℕ → Placed → Type 0
-EndsBy Given m lanes p = p.ends ≡ none
+EndsBy Given m lanes p = p.ends ≡ None
 EndsBy (AtLaneEnd offset) m lanes p = Drawn m lanes p
 EndsBy (AtStation station) m lanes p = Drawn m lanes p

@@ -1,6 +1,5 @@
 -- Where a stop line goes: `centerline`, `cross_section` and `place_stop_line`.
-use Rattle.std.specs.Prelude.{ℕ, ◌%◌, Bool, not, ◌&&◌, ◌||◌, cond, List, [], ◌∷◌, eqb, ltb, length, get_or, Float}
-use Rattle.std.proofs.Math.Option.{Option, none, some}
+use Rattle.std.specs.Prelude.{ℕ, ◌%◌, Bool, not, ◌&&◌, ◌||◌, cond, List, [], ◌∷◌, eqb, ltb, length, get_or, Float, Option, None, Some}
 use Rattle.std.specs.Float.Ieee.{lt}
 use Rattle.refusal.specs.Answer.{Answer, refused, done, ◌>>=◌, ◌>>◌, refuse_when, present}
 use Rattle.rows.specs.Lists.{every, no_entries, twice}
@@ -24,8 +23,8 @@ use Rattle.place.specs.declared.SectionNames.{SectionNames}
 
 -- the number found is refused as unknown
 abbrev pub refuse_found : Option ℕ → ℕ → Answer (Unit {0})
-refuse_found none kind = done tt
-refuse_found (some n) kind = refused 2 (kind ∷ n ∷ [])
+refuse_found None kind = done tt
+refuse_found (Some n) kind = refused 2 (kind ∷ n ∷ [])
 
 unfoldable pub check_lane_list : Map → List ℕ → Answer (Unit {0})
 check_lane_list m lanes = do
@@ -46,16 +45,16 @@ check_polyline cs = do
 -- ---- the centreline of a lane
 
 unfoldable pub between : Option Polyline → Option Polyline → Option Polyline
-between none r = none
-between (some l) none = none
-between (some l) (some r) = centerline l r
+between None r = None
+between (Some l) None = None
+between (Some l) (Some r) = centerline l r
 
 -- the stored one, even if it is empty; else the line between the sides
 unfoldable pub centerline_of : Map → Lane → Option Polyline
-centerline_of m l = elim l.centerline [ some c ↦ some c | none ↦ between (oriented m l.left) (oriented m l.right) ]
+centerline_of m l = elim l.centerline [ Some c ↦ Some c | None ↦ between (oriented m l.left) (oriented m l.right) ]
 
 unfoldable pub lane_centerline : Map → ℕ → Option Polyline
-lane_centerline m n = elim (lane_of m n) [ none ↦ none | some l ↦ centerline_of m l ]
+lane_centerline m n = elim (lane_of m n) [ None ↦ None | Some l ↦ centerline_of m l ]
 
 -- ---- the cross-section
 
@@ -71,13 +70,13 @@ pub record Ends : Type 0 where
 
 -- the end that lies farther out; on equal values the earlier one stays
 unfoldable pub outer : (Float → Float → Bool) → Option End → End → Option End
-outer beats none e = some e
-outer beats (some b) e = some (cond (beats e.lateral b.lateral) e b)
+outer beats None e = Some e
+outer beats (Some b) e = Some (cond (beats e.lateral b.lateral) e b)
 
 -- a boundary without points is passed over
 unfoldable pub widened : Point3 → Point2 → EndName → Option NearestPoint → Ends → Ends
-widened p normal x none es = es
-widened p normal x (some n) es =
+widened p normal x None es = es
+widened p normal x (Some n) es =
     let e : End = record { lateral = dot normal (sub2 (xy n.point) (xy p)); point = n.point; name = x } in
     record { left = outer (λ x y. lt y x) es.left e; right = outer lt es.right e }
 
@@ -103,16 +102,16 @@ pub record Section : Type 0 where
 
 -- the ends must be more than 1e-3 apart
 unfoldable pub section : Option End → Option End → Answer Section
-section none r = refused 6 (5 ∷ [])
-section (some l) none = refused 6 (5 ∷ [])
-section (some l) (some r) = cond (lt milli (l.lateral ⊖ r.lateral)) (done (record { points = l.point ∷ r.point ∷ []; names = record { left = l.name; right = r.name } })) (refused 6 (5 ∷ []))
+section None r = refused 6 (5 ∷ [])
+section (Some l) None = refused 6 (5 ∷ [])
+section (Some l) (Some r) = cond (lt milli (l.lateral ⊖ r.lateral)) (done (record { points = l.point ∷ r.point ∷ []; names = record { left = l.name; right = r.name } })) (refused 6 (5 ∷ []))
 
 unfoldable pub cross_section : Map → ℕ → Float → List ℕ → Answer Section
 cross_section m reference station lanes = do
   center ← present (lane_centerline m reference) 6 (1 ∷ [])
   p ← present (point_at center station) 6 (2 ∷ [])
   dir ← present (direction_at center station) 6 (3 ∷ [])
-  es ← with_lanes m p (perp dir) lanes (record { left = none; right = none })
+  es ← with_lanes m p (perp dir) lanes (record { left = None; right = None })
   section es.left es.right
 
 -- ---- the placement
@@ -124,17 +123,17 @@ pub record Placed : Type 0 where
   pub ends : Option SectionNames
 
 unfoldable pub clamp_warning : ℕ → Float → Float → List Warning
-clamp_warning reference station clamped = cond (lt epsilon (absolute (clamped ⊖ station))) (warning 1 (some (entity 1 reference)) ∷ []) []
+clamp_warning reference station clamped = cond (lt epsilon (absolute (clamped ⊖ station))) (warning 1 (Some (entity 1 reference)) ∷ []) []
 
 unfoldable pub place_at : Map → List ℕ → ℕ → Float → Float → Answer Placed
 place_at m lanes reference len station = do
   refuse_when (not (is_finite station)) 4 (3 ∷ [])
   let clamped = clamp station f0 len
   x ← cross_section m reference clamped lanes
-  done (record { points = x.points; warnings = clamp_warning reference station clamped; ends = some x.names })
+  done (record { points = x.points; warnings = clamp_warning reference station clamped; ends = Some x.names })
 
 unfoldable pub place_as : Placement → List Float → Map → List ℕ → ℕ → Float → Answer Placed
-place_as Given cs m lanes reference len = check_polyline cs >> done (record { points = polyline_of cs; warnings = []; ends = none })
+place_as Given cs m lanes reference len = check_polyline cs >> done (record { points = polyline_of cs; warnings = []; ends = None })
 place_as (AtLaneEnd offset) cs m lanes reference len = do
   refuse_when (not (is_finite offset) || lt offset f0) 4 (2 ∷ [])
   place_at m lanes reference len (len ⊖ offset)

@@ -1,6 +1,5 @@
 -- Parts of the definitions that one function of the code answers.
-use Rattle.std.specs.Prelude.{ℕ, List, [], ◌∷◌, Float}
-use Rattle.std.proofs.Math.Option.{Option, none}
+use Rattle.std.specs.Prelude.{ℕ, List, [], ◌∷◌, Float, Option, None}
 use Rattle.std.specs.Float.Ieee.{lt}
 use Rattle.refusal.specs.Answer.{Answer, done, ◌>>=◌, present}
 use Rattle.geometry.specs.declared.Point2.{Point2}
@@ -19,7 +18,7 @@ abbrev pub outer_right : Option End → End → Option End
 outer_right = outer lt
 
 abbrev pub no_ends : Ends
-no_ends = record { left = none; right = none }
+no_ends = record { left = None; right = None }
 
 -- a side of a lane, and which it is
 pub record NamedSide : Type 0 where

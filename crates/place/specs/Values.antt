@@ -1,9 +1,7 @@
 -- What the code's values stand for.
-use Rattle.std.specs.Prelude.{ℕ, ◌≤◌, ◌≡◌, Bool, false, cond, length, List, [], ◌∷◌}
-use Rattle.std.proofs.Math.Option.{Option, none, some}
+use Rattle.std.specs.Prelude.{ℕ, ◌≤◌, ◌≡◌, Bool, false, cond, length, List, [], ◌∷◌, Option, None, Some, Err, Ok, Result}
 use Rattle.geometry.specs.declared.Point2.{Point2}
 use Rattle.geometry.specs.declared.NearestPoint.{NearestPoint}
-use Rattle.geometry.specs.Maybe.{maybe_nearest}
 use Rattle.geometry.specs.Polyline.{Polyline, nearest_point}
 use Rattle.centerline.specs.declared.Line.{Line}
 use Rattle.centerline.specs.Line.{points_of}
@@ -16,23 +14,17 @@ use Rattle.place.specs.declared.LaneSide.TheVariants.{Left, Right}
 use Rattle.place.specs.declared.Side.{Side}
 use Rattle.place.specs.declared.SideNearest.{SideNearest}
 use Rattle.place.specs.declared.SectionNames.{SectionNames}
-use Rattle.place.specs.declared.MaybeEnds.{MaybeEnds}
-use Rattle.place.specs.declared.MaybeEnds.TheVariants as b
 use Rattle.place.specs.declared.SectionEnd.{SectionEnd}
-use Rattle.place.specs.declared.MaybeEnd.{MaybeEnd}
-use Rattle.place.specs.declared.MaybeEnd.TheVariants as e
 use Rattle.place.specs.declared.SectionEnds.{SectionEnds}
-use Rattle.place.specs.declared.Walked.{Walked}
-use Rattle.place.specs.declared.Walked.TheVariants as w
-use Rattle.place.specs.declared.MaybeSection.{MaybeSection}
-use Rattle.place.specs.declared.MaybeSection.TheVariants as s
 use Rattle.place.specs.Place.{End, Ends, Section, between}
 use Rattle.place.specs.Steps.{NamedSide}
+use Rattle.place.specs.declared.CrossSection.{CrossSection}
+use Rattle.refusal.specs.declared.Refusal.{Refusal}
 
 -- ---- lines that may be missing
 
 abbrev pub maybe_line : MaybeLine → Option Polyline
-maybe_line l = cond l.there (some (points_of l.line)) none
+maybe_line l = cond l.there (Some (points_of l.line)) None
 
 -- a line within its array
 pub record Roomy (l : Line) : Type 0 where
@@ -66,33 +58,33 @@ between_sides m r = between (oriented m (side_of r.left r.left_reversed)) (orien
 
 -- the nearest point of a side: none where its boundary is missing, and none of its points where it has none
 abbrev pub side_nearest : SideNearest → Option (Option NearestPoint)
-side_nearest r = cond r.there (some (maybe_nearest r.nearest)) none
+side_nearest r = cond r.there (Some r.nearest) None
 
 abbrev pub nearest_in : Option Polyline → Point2 → Option (Option NearestPoint)
-nearest_in none p = none
-nearest_in (some l) p = some (nearest_point l p)
+nearest_in None p = None
+nearest_in (Some l) p = Some (nearest_point l p)
 
 -- ---- the cross-section
 
 abbrev pub end_of : SectionEnd → End
 end_of x = record { lateral = x.lateral; point = x.point; name = x.name }
 
-abbrev pub maybe_end : MaybeEnd → Option End
-maybe_end (e.At x) = some (end_of x)
-maybe_end e.Nothing = none
+abbrev pub maybe_end : Option SectionEnd → Option End
+maybe_end (Some x) = Some (end_of x)
+maybe_end None = None
 
 abbrev pub ends_of : SectionEnds → Ends
 ends_of x = record { left = maybe_end x.left; right = maybe_end x.right }
 
-abbrev pub walked : Walked → Answer Ends
-walked (w.Ends x) = done (ends_of x)
-walked w.Missing = refused 6 (4 ∷ [])
+abbrev pub walked : Option SectionEnds → Answer Ends
+walked (Some x) = done (ends_of x)
+walked None = refused 6 (4 ∷ [])
 
-abbrev pub section_answer : MaybeSection → Answer Section
-section_answer (s.At x n) = done (record { points = x.left ∷ x.right ∷ []; names = n })
-section_answer (s.Refused r) = refused_as r
+abbrev pub section_answer : Result (CrossSection × SectionNames) Refusal → Answer Section
+section_answer (Ok (x, n)) = done (record { points = x.left ∷ x.right ∷ []; names = n })
+section_answer (Err r) = refused_as r
 
 -- both names, where they are told
-abbrev pub maybe_ends : MaybeEnds → Option SectionNames
-maybe_ends (b.At x) = some x
-maybe_ends b.Nothing = none
+abbrev pub maybe_ends : Option SectionNames → Option SectionNames
+maybe_ends (Some x) = Some x
+maybe_ends None = None

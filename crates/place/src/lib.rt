@@ -5,7 +5,7 @@
 pub mod lines; // lines.rt: a side of a lane, and its centreline
 pub mod section; // section.rt: the cross-section
 
-use geometry::{MaybeNearest, Point3};
+use geometry::{NearestPoint, Point3};
 use refusal::Refusal;
 
 // Where a stop line goes. Given points come beside it, in a slice of coordinates.
@@ -51,7 +51,7 @@ pub struct EndName {
 #[derive(Drop)]
 pub struct SideNearest {
     pub there: bool,
-    pub nearest: MaybeNearest,
+    pub nearest: Option<NearestPoint>,
 }
 
 // How far to the left a boundary's nearest point lies, that point, and whose it is.
@@ -62,24 +62,11 @@ pub struct SectionEnd {
     pub name: EndName,
 }
 
-#[derive(Drop)]
-pub enum MaybeEnd {
-    At(SectionEnd),
-    Nothing,
-}
-
 // The outermost ends so far.
 #[derive(Drop)]
 pub struct SectionEnds {
-    pub left: MaybeEnd,
-    pub right: MaybeEnd,
-}
-
-// What a walk over sides comes to: the ends, or a boundary that is missing.
-#[derive(Drop)]
-pub enum Walked {
-    Ends(SectionEnds),
-    Missing,
+    pub left: Option<SectionEnd>,
+    pub right: Option<SectionEnd>,
 }
 
 // The names of both ends.
@@ -89,23 +76,9 @@ pub struct SectionNames {
     pub right: EndName,
 }
 
-// Both names, for a line that was drawn across lanes.
-#[derive(Clone, Copy)]
-pub enum MaybeEnds {
-    At(SectionNames),
-    Nothing,
-}
-
 // A cross-section, from left to right.
 #[derive(Drop)]
 pub struct CrossSection {
     pub left: Point3,
     pub right: Point3,
-}
-
-#[derive(Drop)]
-pub enum MaybeSection {
-    // the points, and their names
-    At(CrossSection, SectionNames),
-    Refused(Refusal),
 }

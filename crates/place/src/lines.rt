@@ -1,6 +1,5 @@
 // A side of a lane, and its centreline.
-ghost use Rattle.std.specs.Prelude.{◌≡◌, false, ◌*◌, ◌/◌, ◌≤◌, length, take};
-ghost use Rattle.std.proofs.Math.Option.{none, some};
+ghost use Rattle.std.specs.Prelude.{◌≡◌, false, ◌*◌, ◌/◌, ◌≤◌, length, take, None, Some};
 ghost use Rattle.geometry.specs.Polyline.{polyline_of};
 ghost use Rattle.centerline.specs.Line.{points_of};
 ghost use Rattle.map.specs.Lookup.{oriented};
@@ -11,7 +10,8 @@ ghost use Rattle.place.specs.Values.{maybe_line, Roomy, LineRead, side_of, betwe
 
 use crate::MaybeLine;
 use centerline::Line;
-use map::{Found, LaneRow, lookup};
+use map::{LaneRow, lookup};
+use store::Kind;
 
 // The points of a slice of coordinates, by value.
 pub fn copied(cs: &[f64]) -> Line
@@ -21,12 +21,12 @@ pub fn copied(cs: &[f64]) -> Line
     let count = cs.len() / 3;
     let e = count * 3;
     let mut coords = [0.0; 192];
-    rows::put_f64(&mut coords, 0, &cs[..e]);
+    rows::put(&mut coords, 0, &cs[..e]);
     Line { coords, count }
 }
 
 pub fn absent() -> MaybeLine
-    ensures { LineRead none result }
+    ensures { LineRead None result }
 {
     MaybeLine {
         there: false,
@@ -39,11 +39,11 @@ pub fn oriented(words: &[u64], coords: &[f64], number: u64, reversed: bool) -> M
     requires { Readable words.now coords.now }
     ensures { LineRead (oriented (map_of words.now coords.now) (side_of number reversed)) result }
 {
-    let Found::At(i) = lookup::find(words, 1, number) else {
+    let Some(i) = lookup::find(words, Kind::Boundary, number) else {
         return absent();
     };
-    let n = rows::index(lookup::word(words, 1, i, 1));
-    let cs = lookup::points(coords, 1, i, 0, n);
+    let n = rows::index(lookup::word(words, Kind::Boundary, i, 1));
+    let cs = lookup::points(coords, Kind::Boundary, i, 0, n);
     if reversed {
         return MaybeLine {
             there: true,
@@ -73,10 +73,9 @@ fn between(a: MaybeLine, b: MaybeLine) -> MaybeLine
     let right = r.coords;
     let e = l.count * 3;
     let f = r.count * 3;
-    let c = centerline::middle::centerline(&left[..e], &right[..f]);
-    MaybeLine {
-        there: c.count != 0,
-        line: c,
+    match centerline::middle::centerline(&left[..e], &right[..f]) {
+        Some(line) => MaybeLine { there: true, line },
+        None => absent(),
     }
 }
 
@@ -95,20 +94,19 @@ fn between_along(words: &[u64], coords: &[f64], left: u64, right: u64) -> MaybeL
     requires { Readable words.now coords.now }
     ensures { LineRead (between (oriented (map_of words.now coords.now) (side_of left false)) (oriented (map_of words.now coords.now) (side_of right false))) result }
 {
-    let Found::At(i) = lookup::find(words, 1, left) else {
+    let Some(i) = lookup::find(words, Kind::Boundary, left) else {
         return absent();
     };
-    let Found::At(j) = lookup::find(words, 1, right) else {
+    let Some(j) = lookup::find(words, Kind::Boundary, right) else {
         return absent();
     };
-    let n = rows::index(lookup::word(words, 1, i, 1));
-    let m = rows::index(lookup::word(words, 1, j, 1));
-    let a = lookup::points(coords, 1, i, 0, n);
-    let b = lookup::points(coords, 1, j, 0, m);
-    let c = centerline::middle::centerline(a, b);
-    MaybeLine {
-        there: c.count != 0,
-        line: c,
+    let n = rows::index(lookup::word(words, Kind::Boundary, i, 1));
+    let m = rows::index(lookup::word(words, Kind::Boundary, j, 1));
+    let a = lookup::points(coords, Kind::Boundary, i, 0, n);
+    let b = lookup::points(coords, Kind::Boundary, j, 0, m);
+    match centerline::middle::centerline(a, b) {
+        Some(line) => MaybeLine { there: true, line },
+        None => absent(),
     }
 }
 
@@ -130,15 +128,15 @@ pub fn lane_centerline(words: &[u64], coords: &[f64], lane: u64) -> MaybeLine
     requires { Readable words.now coords.now }
     ensures { LineRead (lane_centerline (map_of words.now coords.now) lane) result }
 {
-    let Found::At(i) = lookup::find(words, 0, lane) else {
+    let Some(i) = lookup::find(words, Kind::Lane, lane) else {
         return absent();
     };
     let row = lookup::lane(words, i);
-    if row.has_centerline {
-        let n = rows::index(row.points);
+    if let Some(points) = row.centerline {
+        let n = rows::index(points);
         return MaybeLine {
             there: true,
-            line: copied(lookup::points(coords, 0, i, 0, n)),
+            line: copied(lookup::points(coords, Kind::Lane, i, 0, n)),
         };
     }
     between_sides(words, coords, row)

@@ -1,7 +1,5 @@
 // The cross-section: the outermost points of the lanes' boundaries.
-ghost use Rattle.std.specs.Prelude.{◌≡◌, ◌<◌, get_or};
-ghost use Rattle.std.proofs.Math.Option.{some};
-ghost use Rattle.geometry.specs.Maybe.{maybe_nearest};
+ghost use Rattle.std.specs.Prelude.{◌≡◌, ◌<◌, get_or, Some};
 ghost use Rattle.geometry.specs.Polyline.{polyline_of, nearest_point};
 ghost use Rattle.centerline.specs.Line.{points_of};
 ghost use Rattle.map.specs.Lookup.{oriented};
@@ -12,39 +10,40 @@ ghost use Rattle.place.specs.Steps.{outer_left, outer_right, no_ends, with_sides
 ghost use Rattle.place.specs.Values.{Roomy, side_of, side_read, sides_of, no_side, side_nearest, nearest_in, end_of, maybe_end, ends_of, walked, section_answer};
 
 use crate::{
-    CrossSection, EndName, LaneSide, MaybeEnd, MaybeSection, SectionEnd, SectionEnds, SectionNames,
-    Side, SideNearest, Walked,
+    CrossSection, EndName, LaneSide, SectionEnd, SectionEnds, SectionNames, Side, SideNearest,
 };
 use centerline::Line;
-use geometry::point::{dot, flat, perp, sub2};
-use geometry::{MaybeNearest, MaybePoint2, MaybePoint3, NearestPoint, Point2, Point3};
-use map::{Found, LaneRow, lookup};
-use refusal::Refusal;
+use geometry::point::{dot, flat, perp};
+use geometry::vector::Vector;
+use geometry::{NearestPoint, Point2, Point3};
+use map::{LaneRow, lookup};
+use refusal::{PlaceFault, Refusal};
+use store::Kind;
 
 // The end that lies farther to the left; on equal values the earlier one stays.
-fn outer_left(best: MaybeEnd, e: SectionEnd) -> MaybeEnd
+fn outer_left(best: Option<SectionEnd>, e: SectionEnd) -> Option<SectionEnd>
     ensures { maybe_end result ≡ outer_left (maybe_end best) (end_of e) }
 {
-    let MaybeEnd::At(b) = best else {
-        return MaybeEnd::At(e);
+    let Some(b) = best else {
+        return Some(e);
     };
     if b.lateral < e.lateral {
-        return MaybeEnd::At(e);
+        return Some(e);
     }
-    MaybeEnd::At(b)
+    Some(b)
 }
 
 // The one that lies farther to the right.
-fn outer_right(best: MaybeEnd, e: SectionEnd) -> MaybeEnd
+fn outer_right(best: Option<SectionEnd>, e: SectionEnd) -> Option<SectionEnd>
     ensures { maybe_end result ≡ outer_right (maybe_end best) (end_of e) }
 {
-    let MaybeEnd::At(b) = best else {
-        return MaybeEnd::At(e);
+    let Some(b) = best else {
+        return Some(e);
     };
     if e.lateral < b.lateral {
-        return MaybeEnd::At(e);
+        return Some(e);
     }
-    MaybeEnd::At(b)
+    Some(b)
 }
 
 // The ends, with a boundary's nearest point taken in.
@@ -55,11 +54,11 @@ fn widened(
     n: NearestPoint,
     ends: SectionEnds,
 ) -> SectionEnds
-    ensures { ends_of result ≡ widened p normal name (some n) (ends_of ends) }
+    ensures { ends_of result ≡ widened p normal name (Some n) (ends_of ends) }
 {
     let q = n.point;
     let e = SectionEnd {
-        lateral: dot(normal, sub2(flat(q), flat(p))),
+        lateral: dot(normal, flat(q).sub(flat(p))),
         point: q,
         name,
     };
@@ -72,9 +71,9 @@ fn widened(
 }
 
 // The point of a line that is nearest to a point of the plane.
-pub fn nearest_of(line: Line, p: Point2) -> MaybeNearest
+pub fn nearest_of(line: Line, p: Point2) -> Option<NearestPoint>
     requires { Roomy line }
-    ensures { maybe_nearest result ≡ nearest_point (points_of line) p }
+    ensures { result ≡ nearest_point (points_of line) p }
 {
     let coords = line.coords;
     let e = line.count * 3;
@@ -92,14 +91,14 @@ fn nearest_side(
     requires { Readable words.now coords.now }
     ensures { side_nearest result ≡ nearest_in (oriented (map_of words.now coords.now) (side_of number reversed)) p }
 {
-    let Found::At(i) = lookup::find(words, 1, number) else {
+    let Some(i) = lookup::find(words, Kind::Boundary, number) else {
         return SideNearest {
             there: false,
-            nearest: MaybeNearest::Nothing,
+            nearest: None,
         };
     };
-    let n = rows::index(lookup::word(words, 1, i, 1));
-    let cs = lookup::points(coords, 1, i, 0, n);
+    let n = rows::index(lookup::word(words, Kind::Boundary, i, 1));
+    let cs = lookup::points(coords, Kind::Boundary, i, 0, n);
     if reversed {
         let line = centerline::reversed::reversed(cs);
         return SideNearest {
@@ -140,7 +139,7 @@ fn with_sides(
     lane: u64,
     row: LaneRow,
     start: SectionEnds,
-) -> Walked
+) -> Option<SectionEnds>
     requires { Readable words.now coords.now }
     ensures { walked result ≡ with_sides (map_of words.now coords.now) p normal lane (sides_of row) (ends_of start) }
 {
@@ -151,17 +150,17 @@ fn with_sides(
         k += 1;
         let b = nearest_side(words, coords, s.number, s.reversed, flat(p));
         if !b.there {
-            return Walked::Missing;
+            return None;
         }
         let nearest = b.nearest;
-        let MaybeNearest::At(n) = nearest else {
+        let Some(n) = nearest else {
             continue;
         };
         let side = s.side;
         let name = EndName { lane, side };
         ends = widened(p, normal, name, n, ends);
     }
-    Walked::Ends(ends)
+    Some(ends)
 }
 
 fn with_lane(
@@ -171,46 +170,52 @@ fn with_lane(
     normal: Point2,
     lane: u64,
     ends: SectionEnds,
-) -> Walked
+) -> Option<SectionEnds>
     requires { Readable words.now coords.now }
     ensures { walked result ≡ with_lane (map_of words.now coords.now) p normal lane (ends_of ends) }
 {
-    let Found::At(i) = lookup::find(words, 0, lane) else {
-        return Walked::Missing;
+    let Some(i) = lookup::find(words, Kind::Lane, lane) else {
+        return None;
     };
     with_sides(words, coords, p, normal, lane, lookup::lane(words, i), ends)
 }
 
-fn with_lanes(words: &[u64], coords: &[f64], p: Point3, normal: Point2, lanes: &[u64]) -> Walked
+fn with_lanes(
+    words: &[u64],
+    coords: &[f64],
+    p: Point3,
+    normal: Point2,
+    lanes: &[u64],
+) -> Option<SectionEnds>
     requires { Readable words.now coords.now }
     ensures { walked result ≡ with_lanes (map_of words.now coords.now) p normal lanes.now no_ends }
 {
     let mut ends = SectionEnds {
-        left: MaybeEnd::Nothing,
-        right: MaybeEnd::Nothing,
+        left: None,
+        right: None,
     };
     let mut i = 0;
     while i < lanes.len() {
-        let Walked::Ends(e) = with_lane(words, coords, p, normal, lanes[i], ends) else {
-            return Walked::Missing;
+        let Some(e) = with_lane(words, coords, p, normal, lanes[i], ends) else {
+            return None;
         };
         ends = e;
         i += 1;
     }
-    Walked::Ends(ends)
+    Some(ends)
 }
 
 // The ends must be more than 1e-3 apart.
-fn section(ends: SectionEnds) -> MaybeSection
+fn section(ends: SectionEnds) -> Result<(CrossSection, SectionNames), Refusal>
     ensures { section_answer result ≡ section (maybe_end ends.left) (maybe_end ends.right) }
 {
     let l = ends.left;
     let r = ends.right;
-    let MaybeEnd::At(a) = l else {
-        return MaybeSection::Refused(Refusal::NoPlace(5));
+    let Some(a) = l else {
+        return Err(Refusal::NoPlace(PlaceFault::NoSection));
     };
-    let MaybeEnd::At(b) = r else {
-        return MaybeSection::Refused(Refusal::NoPlace(5));
+    let Some(b) = r else {
+        return Err(Refusal::NoPlace(PlaceFault::NoSection));
     };
     if a.lateral - b.lateral > 1e-3 {
         let left = a.point;
@@ -222,9 +227,9 @@ fn section(ends: SectionEnds) -> MaybeSection
             right: two,
         };
         let points = CrossSection { left, right };
-        return MaybeSection::At(points, names);
+        return Ok((points, names));
     }
-    MaybeSection::Refused(Refusal::NoPlace(5))
+    Err(Refusal::NoPlace(PlaceFault::NoSection))
 }
 
 // The cross-section at a station of a centreline.
@@ -234,18 +239,18 @@ pub fn cross_section(
     center: &[f64],
     station: f64,
     lanes: &[u64],
-) -> MaybeSection
+) -> Result<(CrossSection, SectionNames), Refusal>
     requires { Readable words.now coords.now }
     ensures { section_answer result ≡ section_on (map_of words.now coords.now) (polyline_of center.now) station lanes.now }
 {
-    let MaybePoint3::At(p) = polyline::locate::point_at(center, station) else {
-        return MaybeSection::Refused(Refusal::NoPlace(2));
+    let Some(p) = polyline::locate::point_at(center, station) else {
+        return Err(Refusal::NoPlace(PlaceFault::Empty));
     };
-    let MaybePoint2::At(d) = polyline::direction::direction_at(center, station) else {
-        return MaybeSection::Refused(Refusal::NoPlace(3));
+    let Some(d) = polyline::direction::direction_at(center, station) else {
+        return Err(Refusal::NoPlace(PlaceFault::DegenerateCenterline));
     };
-    let Walked::Ends(e) = with_lanes(words, coords, p, perp(d), lanes) else {
-        return MaybeSection::Refused(Refusal::NoPlace(4));
+    let Some(e) = with_lanes(words, coords, p, perp(d), lanes) else {
+        return Err(Refusal::NoPlace(PlaceFault::MissingBoundary));
     };
     section(e)
 }

@@ -1,4 +1,5 @@
 -- A list of lanes, and given points: each refusal, and what has passed.
+use Rattle.std.specs.Prelude.{Err, Ok, None, Option, Some}
 use Prim.Native.Nat.{ℕ, ◌/◌, ◌%◌, ◌≤◌, ◌<◌}
 use mathlib.Core.Path.{◌≡◌, refl}
 use mathlib.Core.Bool.{Bool, true, false, not, ◌&&◌}
@@ -10,14 +11,13 @@ use lib.ListN.{length}
 use borrow.Author.Tests.{not-true, not-false, eq-eqb, ne_eqb, lt-ltb, le-ltb, ltb-false}
 use Rattle.refusal.specs.Answer.{Answer, refused, done, ◌>>◌, refuse_when}
 use Rattle.refusal.specs.declared.Refusal.TheVariants.{NoLanes, Unknown, ListedTwice}
+use Rattle.refusal.specs.declared.Listed.TheVariants as listed
+use Rattle.refusal.specs.declared.RecordKind.TheVariants as record_kind
 use Rattle.rows.specs.Lists.{every, no_entries, twice}
 use Rattle.geometry.specs.Double.{is_finite, on_map}
 use Rattle.geometry.specs.Polyline.{polyline_of, is_valid}
 use Rattle.polyline.proofs.Lines.{length-points}
 use Rattle.place.specs.Place.{check_lane_list, check_polyline}
-use Rattle.placing.specs.declared.Checked.TheVariants.{Fine, Refused}
-use Rattle.placing.specs.declared.MaybeNumber.{MaybeNumber}
-use Rattle.placing.specs.declared.MaybeNumber.TheVariants.{At, Nothing}
 use Rattle.placing.specs.Answers.{UnknownRead, LanesChecked}
 
 -- ---- lanes
@@ -33,21 +33,21 @@ some_entries [] h = absurd (h refl)
 some_entries (n ∷ ns) h = refl
 
 module _ (ws lanes : List ℕ) where
-  pub lanes_none : length lanes ≡ 0 → LanesChecked ws lanes (Refused NoLanes)
+  pub lanes_none : length lanes ≡ 0 → LanesChecked ws lanes (Err NoLanes)
   unfolding check_lane_list
   lanes_none h = record { answer = λ cs. rw (no_entries_lem lanes h) }
 
-  module _ (h : length lanes ≡ 0 → ⊥) (r : MaybeNumber) (e : UnknownRead ws lanes r) where
-    pub lanes_unknown : (n : ℕ) → r ≡ At n → LanesChecked ws lanes (Refused (Unknown 1 n))
+  module _ (h : length lanes ≡ 0 → ⊥) (r : Option ℕ) (e : UnknownRead ws lanes r) where
+    pub lanes_unknown : (n : ℕ) → r ≡ Some n → LanesChecked ws lanes (Err (Unknown record_kind.Lane n))
     unfolding check_lane_list
     lanes_unknown n q = record { answer = λ cs. rw (some_entries lanes h, ← e.answer cs, q) }
 
-    module _ (q : r ≡ Nothing) (b : Bool) (eb : b ≡ twice lanes) where
-      pub lanes_twice : b ≡ true → LanesChecked ws lanes (Refused (ListedTwice 1))
+    module _ (q : r ≡ None) (b : Bool) (eb : b ≡ twice lanes) where
+      pub lanes_twice : b ≡ true → LanesChecked ws lanes (Err (ListedTwice listed.Lanes))
       unfolding check_lane_list
       lanes_twice t = record { answer = λ cs. rw (some_entries lanes h, ← e.answer cs, q, ← eb, t) }
 
-      pub lanes_fine : b ≡ false → LanesChecked ws lanes Fine
+      pub lanes_fine : b ≡ false → LanesChecked ws lanes (Ok tt)
       unfolding check_lane_list
       lanes_fine t = record { answer = λ cs. rw (some_entries lanes h, ← e.answer cs, q, ← eb, t) }
 
@@ -100,7 +100,7 @@ shape_few cs e =
     let t = passed (ltb 64 (length (polyline_of cs))) 10 [] _ (second (refuse_when (not (every on_map cs)) 9 []) _ (second (refuse_when (not (eqb (length cs % 3) 0 && every is_finite cs)) 5 (1 ∷ [])) _ e)) in
     omega (arith, length-points cs, ltb-false 64 (length (polyline_of cs)) t)
 
-pub lanes_there : (ws lanes : List ℕ) → LanesChecked ws lanes Fine → 0 < length lanes
+pub lanes_there : (ws lanes : List ℕ) → LanesChecked ws lanes (Ok tt) → 0 < length lanes
 unfolding check_lane_list no_entries
 lanes_there ws [] h = absurd (never 1 [] (h.answer []))
 lanes_there ws (n ∷ ns) h = omega arith

@@ -2,7 +2,7 @@
 use Prim.Native.Nat.{ℕ, ◌*◌, ◌/◌, ◌≤◌}
 use mathlib.Core.Path.{◌≡◌, refl, sym, ap, ◌∙◌}
 use mathlib.Core.Bool.{Bool, true, false, not}
-use mathlib.Core.Option.{none, some}
+use Rattle.std.specs.Prelude.{None, Some, Err, Ok, Result}
 use mathlib.Core.List.{List, [], ◌∷◌}
 use native.Mathlib.Omega.{arith}
 use lib.Ieee.{Float, lt}
@@ -11,6 +11,8 @@ use borrow.Author.Tests.{not-true, not-false}
 use Rattle.refusal.specs.Answer.{Answer, done, ◌>>=◌}
 use Rattle.refusal.specs.declared.Refusal.{Refusal}
 use Rattle.refusal.specs.declared.Refusal.TheVariants.{BadMeasure, NoPlace}
+use Rattle.refusal.specs.declared.Measure.TheVariants as measure
+use Rattle.refusal.specs.declared.PlaceFault.TheVariants as place_fault
 use Rattle.rows.specs.Lists.{list_to}
 use Rattle.geometry.specs.declared.Point3.{Point3}
 use Rattle.geometry.specs.Double.{◌⊖◌, f0, epsilon, is_finite, absolute, clamp}
@@ -20,11 +22,8 @@ use Rattle.centerline.specs.declared.Line.{Line}
 use Rattle.centerline.specs.Line.{points_of}
 use Rattle.map.specs.Record.{Map}
 use Rattle.place.specs.declared.CrossSection.{CrossSection}
-use Rattle.place.specs.declared.MaybeEnds.TheVariants as ends
 use Rattle.place.specs.declared.SectionNames.{SectionNames}
 use Rattle.place.specs.declared.MaybeLine.{MaybeLine}
-use Rattle.place.specs.declared.MaybeSection.{MaybeSection}
-use Rattle.place.specs.declared.MaybeSection.TheVariants.{At, Refused}
 use Rattle.place.specs.declared.Placement.{Placement}
 use Rattle.place.specs.declared.Placement.TheVariants.{AtLaneEnd, AtStation, Given}
 use Rattle.place.specs.Place.{Placed, lane_centerline, cross_section, check_polyline, clamp_warning, place_at, place_as, place_stop_line}
@@ -32,8 +31,6 @@ use Rattle.place.specs.Steps.{section_on}
 use Rattle.place.specs.Values.{Roomy, LineRead, section_answer}
 use Rattle.place.proofs.LineLaws.{line_part_lem, count_few}
 use Rattle.place.proofs.SectionLaws.{cross_section_is}
-use Rattle.placing.specs.declared.Checked.{Checked}
-use Rattle.placing.specs.declared.Checked.TheVariants as c
 use Rattle.placing.specs.declared.PlacedLine.{PlacedLine}
 use Rattle.placing.specs.Answers.{checked, placed_answer, RefusedWith, place_on, place_given}
 
@@ -52,37 +49,37 @@ given_room cs l h e w = record { few = count_few l (polyline_of cs) e (omega (ar
 -- ---- at a station
 
 module _ (m : Map) (center : Polyline) (lanes : List ℕ) (n : ℕ) (len station : Float) (b : Bool) (e : b ≡ is_finite station) where
-  pub station_bad : (a : PlacedLine) → not b ≡ true → RefusedWith (BadMeasure 3) a → placed_answer n a ≡ place_on m center lanes n len station
+  pub station_bad : (a : PlacedLine) → not b ≡ true → RefusedWith (BadMeasure measure.Station) a → placed_answer n a ≡ place_on m center lanes n len station
   unfolding place_on
   station_bad a t h = h.answer n ∙ rw (← e, not-true b t)
 
-  module _ (t : not b ≡ false) (x : Float) (ex : x ≡ clamp station f0 len) (s : MaybeSection) (es : section_answer s ≡ section_on m center x lanes) where
-    at_section : place_on m center lanes n len station ≡ (section_answer s >>= λ y. done (record { points = y.points; warnings = clamp_warning n station x; ends = some y.names }))
+  module _ (t : not b ≡ false) (x : Float) (ex : x ≡ clamp station f0 len) (s : Result (CrossSection × SectionNames) Refusal) (es : section_answer s ≡ section_on m center x lanes) where
+    at_section : place_on m center lanes n len station ≡ (section_answer s >>= λ y. done (record { points = y.points; warnings = clamp_warning n station x; ends = Some y.names }))
     unfolding place_on
     at_section = rw (← e, not-false b t, ← ex, ← es)
 
-    pub section_refused : (r : Refusal) (a : PlacedLine) → s ≡ Refused r → RefusedWith r a → placed_answer n a ≡ place_on m center lanes n len station
+    pub section_refused : (r : Refusal) (a : PlacedLine) → s ≡ Err r → RefusedWith r a → placed_answer n a ≡ place_on m center lanes n len station
     section_refused r a q h = h.answer n ∙ sym (at_section ∙ rw q)
 
-    pub section_placed : (y : CrossSection) (z : SectionNames) (l : Line) (d : Bool) → s ≡ At y z → points_of l ≡ y.left ∷ y.right ∷ [] → d ≡ lt epsilon (absolute (x ⊖ station))
-        → placed_answer n (record { checked = c.Fine; line = l; clamped = d; ends = ends.At z }) ≡ place_on m center lanes n len station
+    pub section_placed : (y : CrossSection) (z : SectionNames) (l : Line) (d : Bool) → s ≡ Ok (y, z) → points_of l ≡ y.left ∷ y.right ∷ [] → d ≡ lt epsilon (absolute (x ⊖ station))
+        → placed_answer n (record { checked = (Ok tt); line = l; clamped = d; ends = Some z }) ≡ place_on m center lanes n len station
     unfolding clamp_warning
     section_placed y z l d q h ed = sym (at_section ∙ rw (q, ← h, ← ed))
 
 -- ---- given points
 
-module _ (cs : List Float) (n : ℕ) (k : Checked) (e : checked k ≡ check_polyline cs) where
-  pub given_refused : (r : Refusal) (a : PlacedLine) → k ≡ c.Refused r → RefusedWith r a → placed_answer n a ≡ place_given cs
+module _ (cs : List Float) (n : ℕ) (k : Result (Unit {0}) Refusal) (e : checked k ≡ check_polyline cs) where
+  pub given_refused : (r : Refusal) (a : PlacedLine) → k ≡ Err r → RefusedWith r a → placed_answer n a ≡ place_given cs
   unfolding place_given
   given_refused r a q h = h.answer n ∙ rw (← e, q)
 
-  pub given_placed : (l : Line) → k ≡ c.Fine → points_of l ≡ polyline_of cs → placed_answer n (record { checked = c.Fine; line = l; clamped = false; ends = ends.Nothing }) ≡ place_given cs
+  pub given_placed : (l : Line) → k ≡ (Ok tt) → points_of l ≡ polyline_of cs → placed_answer n (record { checked = (Ok tt); line = l; clamped = false; ends = None }) ≡ place_given cs
   unfolding place_given
   given_placed l q h = rw (← e, q, h)
 
 -- ---- a placement
 
-module _ (m : Map) (center : Polyline) (lanes : List ℕ) (n : ℕ) (e : lane_centerline m n ≡ some center) where
+module _ (m : Map) (center : Polyline) (lanes : List ℕ) (n : ℕ) (e : lane_centerline m n ≡ Some center) where
   on_center : (s : Float) → cross_section m n s lanes ≡ section_on m center s lanes
   on_center s = cross_section_is m n s lanes ∙ rw e
 
@@ -100,11 +97,11 @@ module _ (m : Map) (center : Polyline) (lanes : List ℕ) (n : ℕ) (e : lane_ce
     as_station s a q h = rw (q, ← el) (h ∙ sym (at_center len s))
 
     module _ (o : Float) (q : how ≡ AtLaneEnd o) (b : Bool) (eb : b ≡ is_finite o) where
-      pub as_infinite : (a : PlacedLine) → not b ≡ true → RefusedWith (BadMeasure 2) a → placed_answer n a ≡ place_as how given m lanes n (polyline_length center)
+      pub as_infinite : (a : PlacedLine) → not b ≡ true → RefusedWith (BadMeasure measure.Offset) a → placed_answer n a ≡ place_as how given m lanes n (polyline_length center)
       unfolding place_as
       as_infinite a t h = h.answer n ∙ rw (q, ← eb, not-true b t)
 
-      pub as_negative : (a : PlacedLine) → not b ≡ false → lt o f0 ≡ true → RefusedWith (BadMeasure 2) a → placed_answer n a ≡ place_as how given m lanes n (polyline_length center)
+      pub as_negative : (a : PlacedLine) → not b ≡ false → lt o f0 ≡ true → RefusedWith (BadMeasure measure.Offset) a → placed_answer n a ≡ place_as how given m lanes n (polyline_length center)
       unfolding place_as
       as_negative a t u h = h.answer n ∙ rw (q, ← eb, not-false b t, u)
 
@@ -115,18 +112,18 @@ module _ (m : Map) (center : Polyline) (lanes : List ℕ) (n : ℕ) (e : lane_ce
 -- ---- with the centreline looked up
 
 module _ (m : Map) (lanes : List ℕ) (how : Placement) (given : List Float) (l : MaybeLine) (read : LineRead (lane_centerline m (get_or lanes 0 0)) l) where
-  pub no_center : (a : PlacedLine) → not l.there ≡ true → RefusedWith (NoPlace 1) a → placed_answer (get_or lanes 0 0) a ≡ place_stop_line m lanes how given
+  pub no_center : (a : PlacedLine) → not l.there ≡ true → RefusedWith (NoPlace place_fault.NoLaneGeometry) a → placed_answer (get_or lanes 0 0) a ≡ place_stop_line m lanes how given
   unfolding place_stop_line
   no_center a t h =
       let f = not-true l.there t in
-      let g : lane_centerline m (get_or lanes 0 0) ≡ none = sym read.answer ∙ rw f in
+      let g : lane_centerline m (get_or lanes 0 0) ≡ None = sym read.answer ∙ rw f in
       h.answer (get_or lanes 0 0) ∙ rw g
 
   module _ (t : not l.there ≡ false) where
-    pub center_there : lane_centerline m (get_or lanes 0 0) ≡ some (polyline_of (take (l.line.count * 3) l.line.coords))
+    pub center_there : lane_centerline m (get_or lanes 0 0) ≡ Some (polyline_of (take (l.line.count * 3) l.line.coords))
     center_there =
         let f = not-false l.there t in
-        sym read.answer ∙ rw f (ap some (sym (line_part_lem l.line read.room)))
+        sym read.answer ∙ rw f (ap Some (sym (line_part_lem l.line read.room)))
 
     pub placed_is : (a : Answer Placed) → a ≡ place_as how given m lanes (get_or lanes 0 0) (polyline_length (polyline_of (take (l.line.count * 3) l.line.coords))) → a ≡ place_stop_line m lanes how given
     unfolding place_stop_line

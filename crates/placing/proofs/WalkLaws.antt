@@ -1,4 +1,5 @@
 -- Walks over a list that test each entry: what is left decides.
+use Rattle.std.specs.Prelude.{None, Some}
 use Prim.Native.Nat.{ℕ, suc, ◌+◌, ◌≤◌, ◌<◌}
 use mathlib.Core.Path.{◌≡◌, refl, sym, ◌∙◌}
 use mathlib.Core.Bool.{Bool, true, false, not, ◌||◌}
@@ -18,7 +19,6 @@ use Rattle.map.specs.Lookup.{unknown_in}
 use Rattle.map.specs.Tables.{lane_in, map_of}
 use Rattle.map.specs.Access.{index_in}
 use Rattle.map.proofs.ReadLaws.{holds_here, lane_number}
-use Rattle.placing.specs.declared.MaybeNumber.TheVariants.{At, Nothing}
 use Rattle.placing.specs.Answers.{UnknownRead}
 
 -- ---- every entry passes
@@ -107,7 +107,7 @@ module _ (ws lanes : List ℕ) where
   known_start = record { within = omega arith; goes = λ cs. refl }
 
   module _ (i : ℕ) (inv : Known i) where
-    pub known_end : length lanes ≤ i → UnknownRead ws lanes Nothing
+    pub known_end : length lanes ≤ i → UnknownRead ws lanes None
     unfolding unknown_in first_of
     known_end h = record { answer = λ cs. sym (inv.goes cs ∙ rw (drop_of_length-le lanes h)) }
 
@@ -116,7 +116,7 @@ module _ (ws lanes : List ℕ) where
       unfolding map_of
       here cs = holds_here (λ (l : Lane). l.num) lane_in lane_number ws cs 0 (omega arith) (get_or lanes i 0) ∙ sym e
 
-      pub known_not : not b ≡ true → UnknownRead ws lanes (At (get_or lanes i 0))
+      pub known_not : not b ≡ true → UnknownRead ws lanes (Some (get_or lanes i 0))
       unfolding unknown_in first_of
       known_not t = record { answer = λ cs. sym (inv.goes cs ∙ rw (drop-cons lanes i 0 h, here cs, not-true b t)) }
 

@@ -4,45 +4,45 @@ ghost use Rattle.store.specs.Layout.{SizedWords};
 ghost use Rattle.place.specs.Place.{check_polyline};
 ghost use Rattle.placing.specs.Answers.{checked, LanesChecked};
 
-use crate::{Checked, MaybeNumber, lists};
-use refusal::Refusal;
+use crate::lists;
+use refusal::{Listed, RecordKind, Refusal, ShapeFault};
 
 // 1 for no lanes, 2 for the first unknown one as given, 3 for one that is listed twice.
-pub fn check_lane_list(words: &[u64], lanes: &[u64]) -> Checked
+pub fn check_lane_list(words: &[u64], lanes: &[u64]) -> Result<(), Refusal>
     requires { SizedWords words.now }
     ensures { LanesChecked words.now lanes.now result }
 {
     if lanes.len() == 0 {
-        return Checked::Refused(Refusal::NoLanes);
+        return Err(Refusal::NoLanes);
     }
     let unknown = lists::unknown_lane(words, lanes);
-    if let MaybeNumber::At(n) = unknown {
-        return Checked::Refused(Refusal::Unknown(1, n));
+    if let Some(n) = unknown {
+        return Err(Refusal::Unknown(RecordKind::Lane, n));
     }
     if lists::twice(lanes) {
-        return Checked::Refused(Refusal::ListedTwice(1));
+        return Err(Refusal::ListedTwice(Listed::Lanes));
     }
-    Checked::Fine
+    Ok(())
 }
 
 // 5/1 for a coordinate that is missing or not finite, 9, 10, then 5/2 for no length.
-pub fn check_polyline(cs: &[f64]) -> Checked
+pub fn check_polyline(cs: &[f64]) -> Result<(), Refusal>
     ensures { checked result ≡ check_polyline cs.now }
 {
     if cs.len() % 3 != 0 {
-        return Checked::Refused(Refusal::BadShape(1));
+        return Err(Refusal::BadShape(ShapeFault::NotFinite));
     }
     if !lists::all_finite(cs) {
-        return Checked::Refused(Refusal::BadShape(1));
+        return Err(Refusal::BadShape(ShapeFault::NotFinite));
     }
     if !lists::all_on_map(cs) {
-        return Checked::Refused(Refusal::OffTheMap);
+        return Err(Refusal::OffTheMap);
     }
     if 64 < cs.len() / 3 {
-        return Checked::Refused(Refusal::Full);
+        return Err(Refusal::Full);
     }
     if !polyline::length::is_valid(cs) {
-        return Checked::Refused(Refusal::BadShape(2));
+        return Err(Refusal::BadShape(ShapeFault::TooShort));
     }
-    Checked::Fine
+    Ok(())
 }

@@ -2,30 +2,18 @@
 #![tactic(auto)]
 
 use centerline::Line;
-use place::MaybeEnds;
+use place::SectionNames;
 use refusal::Refusal;
 
 pub mod lists; // lists.rt: tests of a whole list
 pub mod checks; // checks.rt: a list of lanes, and given points
 pub mod stop_line; // stop_line.rt: where a stop line goes
 
-#[derive(Clone, Copy)]
-pub enum Checked {
-    Fine,
-    Refused(Refusal),
-}
-
-#[derive(Clone, Copy)]
-pub enum MaybeNumber {
-    At(u64),
-    Nothing,
-}
-
 // Where the check is fine: the line, whether the station was moved, and the names of both ends of a cross-section.
 #[derive(Clone, Copy)]
 pub struct PlacedLine {
-    pub checked: Checked,
+    pub checked: Result<(), Refusal>,
     pub line: Line,
     pub clamped: bool,
-    pub ends: MaybeEnds,
+    pub ends: Option<SectionNames>,
 }

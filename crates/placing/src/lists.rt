@@ -5,9 +5,9 @@ ghost use Rattle.geometry.specs.Double.{is_finite, on_map};
 ghost use Rattle.store.specs.Layout.{SizedWords};
 ghost use Rattle.placing.specs.Answers.{UnknownRead};
 
-use crate::MaybeNumber;
 use geometry::double;
 use map::lookup;
+use store::Kind;
 
 pub fn all_finite(cs: &[f64]) -> bool
     ensures { result ≡ every is_finite cs.now }
@@ -65,17 +65,17 @@ pub fn twice(ns: &[u64]) -> bool
 }
 
 // The first lane, as given, that the map lacks.
-pub fn unknown_lane(words: &[u64], lanes: &[u64]) -> MaybeNumber
+pub fn unknown_lane(words: &[u64], lanes: &[u64]) -> Option<u64>
     requires { SizedWords words.now }
     ensures { UnknownRead words.now lanes.now result }
 {
     let mut i = 0;
     while i < lanes.len() {
         let n = lanes[i];
-        if !lookup::holds(words, 0, n) {
-            return MaybeNumber::At(n);
+        if !lookup::holds(words, Kind::Lane, n) {
+            return Some(n);
         }
         i += 1;
     }
-    MaybeNumber::Nothing
+    None
 }

@@ -1,6 +1,5 @@
 // Where a stop line goes.
-ghost use Rattle.std.specs.Prelude.{◌≡◌, [], ◌∷◌, ◌<◌, length, get_or};
-ghost use Rattle.std.proofs.Math.Option.{some};
+ghost use Rattle.std.specs.Prelude.{◌≡◌, [], ◌∷◌, ◌<◌, length, get_or, Some};
 ghost use Rattle.std.specs.Float.Ieee.{lt};
 ghost use Rattle.geometry.specs.Double.{◌⊖◌, epsilon, absolute};
 ghost use Rattle.geometry.specs.Polyline.{polyline_of, polyline_length};
@@ -11,23 +10,23 @@ ghost use Rattle.place.specs.Readable.{Readable};
 ghost use Rattle.place.specs.Values.{Roomy, LineRead};
 ghost use Rattle.placing.specs.Answers.{RefusedWith, placed_answer, place_on, place_given};
 
+use crate::PlacedLine;
 use crate::checks::check_polyline;
-use crate::{Checked, PlacedLine};
 use centerline::Line;
 use geometry::double::{EPSILON, abs, clamp, is_finite};
 use place::lines::{copied, lane_centerline};
 use place::section::cross_section;
-use place::{CrossSection, MaybeEnds, MaybeLine, MaybeSection, Placement};
-use refusal::Refusal;
+use place::{CrossSection, MaybeLine, Placement};
+use refusal::{Measure, PlaceFault, Refusal};
 
 pub fn refused_line(r: Refusal) -> PlacedLine
     ensures { RefusedWith r result }
 {
     PlacedLine {
-        checked: Checked::Refused(r),
+        checked: Err(r),
         line: centerline::empty(),
         clamped: false,
-        ends: MaybeEnds::Nothing,
+        ends: None,
     }
 }
 
@@ -67,16 +66,16 @@ fn place_at(
     ensures { (placed_answer (get_or lanes.now 0 0) result ≡ place_on (map_of words.now coords.now) (polyline_of center.now) lanes.now (get_or lanes.now 0 0) len station) × Roomy result.line }
 {
     if !is_finite(station) {
-        return refused_line(Refusal::BadMeasure(3));
+        return refused_line(Refusal::BadMeasure(Measure::Station));
     }
     let clamped = clamp(station, 0.0, len);
     match cross_section(words, coords, center, clamped, lanes) {
-        MaybeSection::Refused(r) => refused_line(r),
-        MaybeSection::At(s, names) => PlacedLine {
-            checked: Checked::Fine,
+        Err(r) => refused_line(r),
+        Ok((s, names)) => PlacedLine {
+            checked: Ok(()),
             line: across(s),
             clamped: moved(station, clamped),
-            ends: MaybeEnds::At(names),
+            ends: Some(names),
         },
     }
 }
@@ -85,12 +84,12 @@ fn given_line(given: &[f64], reference: u64) -> PlacedLine
     ensures { (placed_answer reference result ≡ place_given given.now) × Roomy result.line }
 {
     match check_polyline(given) {
-        Checked::Refused(r) => refused_line(r),
-        Checked::Fine => PlacedLine {
-            checked: Checked::Fine,
+        Err(r) => refused_line(r),
+        Ok(()) => PlacedLine {
+            checked: Ok(()),
             line: copied(given),
             clamped: false,
-            ends: MaybeEnds::Nothing,
+            ends: None,
         },
     }
 }
@@ -104,7 +103,7 @@ pub fn place_as(
     how: Placement,
     given: &[f64],
 ) -> PlacedLine
-    requires { Readable words.now coords.now × (0 < length lanes.now) × (lane_centerline (map_of words.now coords.now) (get_or lanes.now 0 0) ≡ some (polyline_of center.now)) }
+    requires { Readable words.now coords.now × (0 < length lanes.now) × (lane_centerline (map_of words.now coords.now) (get_or lanes.now 0 0) ≡ Some (polyline_of center.now)) }
     ensures { (placed_answer (get_or lanes.now 0 0) result ≡ place_as how given.now (map_of words.now coords.now) lanes.now (get_or lanes.now 0 0) (polyline_length (polyline_of center.now))) × Roomy result.line }
 {
     let len = polyline::length::length(center);
@@ -113,10 +112,10 @@ pub fn place_as(
         Placement::AtStation(s) => place_at(words, coords, center, lanes, len, s),
         Placement::AtLaneEnd(offset) => {
             if !is_finite(offset) {
-                return refused_line(Refusal::BadMeasure(2));
+                return refused_line(Refusal::BadMeasure(Measure::Offset));
             }
             if offset < 0.0 {
-                return refused_line(Refusal::BadMeasure(2));
+                return refused_line(Refusal::BadMeasure(Measure::Offset));
             }
             place_at(words, coords, center, lanes, len, len - offset)
         }
@@ -136,7 +135,7 @@ pub fn place_with(
     ensures { (placed_answer (get_or lanes.now 0 0) result ≡ place_stop_line (map_of words.now coords.now) lanes.now how given.now) × Roomy result.line }
 {
     if !center.there {
-        return refused_line(Refusal::NoPlace(1));
+        return refused_line(Refusal::NoPlace(PlaceFault::NoLaneGeometry));
     }
     let line = center.line;
     let cs = line.coords;

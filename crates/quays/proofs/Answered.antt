@@ -2,7 +2,7 @@
 use Prim.Native.Nat.{ℕ, ◌^◌, ◌≤◌}
 use mathlib.Core.Path.{◌≡◌, refl, sym, ap, ap₂, ◌∙◌}
 use mathlib.Core.Bool.{Bool, true, false, not, ◌&&◌}
-use mathlib.Core.Option.{some}
+use Rattle.std.specs.Prelude.{Some}
 use mathlib.Core.List.{List, []}
 use native.Mathlib.Omega.{arith}
 use lib.Dec.{leb}
@@ -85,7 +85,7 @@ fold_takes s c ok few =
 -- ---- a placed line's draft
 
 -- the line under its number
-new_line : (m : Map) → is_map m ≡ true → (xs : Polyline) → line_of (with_line m xs) (fresh m) ≡ some (record { num = fresh m; geometry = xs })
+new_line : (m : Map) → is_map m ≡ true → (xs : Polyline) → line_of (with_line m xs) (fresh m) ≡ Some (record { num = fresh m; geometry = xs })
 unfolding line_of
 new_line m ok xs = find-append (λ (x : LineString). x.num) (fresh m) m.stop_lines (record { num = fresh m; geometry = xs })
     ∙ rw (find_above (λ (x : LineString). x.num) 0 m.next (fresh m) m.stop_lines (up₅ m ok) (omega arith), eq-eqb (fresh m) (fresh m) refl)
@@ -181,7 +181,7 @@ runs_same a m n okm okn es fs q r = answers_same a (run_all es (opening m)) (run
 
 -- ---- the line on the map
 
-draft_line : (rule : StopRule) (ls : List ℕ) (m : Map) → is_map m ≡ true → (p : Placed) → let d = placed_draft rule ls m p in line_of d.map d.id ≡ some (record { num = d.id; geometry = p.points })
+draft_line : (rule : StopRule) (ls : List ℕ) (m : Map) → is_map m ≡ true → (p : Placed) → let d = placed_draft rule ls m p in line_of d.map d.id ≡ Some (record { num = d.id; geometry = p.points })
 unfolding placed_draft line_draft rule_at line_of
 draft_line StopSign ls m ok p = new_line m ok p.points
 draft_line Marking ls m ok p = new_line m ok p.points
@@ -195,5 +195,5 @@ line_stored a s o e =
     record { placed = v.value; placed_is = v.first; line = stands w.map w.draft v.value (ap (λ (t : State). t.map) w.end.state) w.end.number (done_is v.rest) }
   where
     stands : is_map s.map ≡ true → (d : Draft) (p : Placed) → o.state.map ≡ d.map → o.id ≡ d.id → placed_draft a.rule a.lanes s.map p ≡ d
-        → line_of o.state.map o.id ≡ some (record { num = o.id; geometry = p.points })
+        → line_of o.state.map o.id ≡ Some (record { num = o.id; geometry = p.points })
     stands ok d p m n q = rw (m, n, ← q) (draft_line a.rule a.lanes s.map ok p)

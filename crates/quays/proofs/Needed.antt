@@ -2,7 +2,7 @@
 use Prim.Native.Nat.{ℕ, ◌+◌}
 use mathlib.Core.Path.{◌≡◌, refl, sym, ◌∙◌, subst}
 use mathlib.Core.Bool.{Bool, true, false, not, ◌&&◌}
-use mathlib.Core.Option.{Option, none, some}
+use Rattle.std.specs.Prelude.{Option, None, Some}
 use mathlib.Core.List.{List, [], ◌∷◌, ◌++◌}
 use lib.Dec.{eqb}
 use lib.Ieee.{Float, neg}
@@ -35,8 +35,8 @@ use Rattle.quays.specs.Needed.{Item, lanes, boundaries, next, lines, rules, used
 -- ---- what a caller sees of an answer, as numbers
 
 abbrev form_of_line : Option LineString → Bytes
-form_of_line none = []
-form_of_line (some l) = line_string.write l
+form_of_line None = []
+form_of_line (Some l) = line_string.write l
 
 abbrev shown : Answer Outcome → List ℕ
 shown (refused n ds) = n ∷ ds
@@ -85,7 +85,7 @@ abbrev yard : ℕ → List Lane → List LineString → List LineString → List
 yard k ls bs ss rs = record { next = k; lanes = ls; boundaries = bs; stop_lines = ss; signals = []; crosswalks = []; rules = rs }
 
 abbrev plain : Lane
-plain = lane3 1 2 none
+plain = lane3 1 2 None
 
 -- the map of the worked crossings, and what bounds its lane
 abbrev worked : Map
@@ -109,20 +109,20 @@ only_three l h = sym (eqb-true 3 l (sym (or_no (eqb 3 l)) ∙ h))
 
 module _ (m n : Map) where
   -- the boundaries of the first map's lane 3
-  bounds : (k : Lane) → lane_of m 3 ≡ some k → boundary_of m k.left.boundary ≡ boundary_of n k.left.boundary → boundary_of m k.right.boundary ≡ boundary_of n k.right.boundary
-      → (l : ℕ) (r : Lane) → member l (3 ∷ []) ≡ true → lane_of m l ≡ some r
+  bounds : (k : Lane) → lane_of m 3 ≡ Some k → boundary_of m k.left.boundary ≡ boundary_of n k.left.boundary → boundary_of m k.right.boundary ≡ boundary_of n k.right.boundary
+      → (l : ℕ) (r : Lane) → member l (3 ∷ []) ≡ true → lane_of m l ≡ Some r
       → (boundary_of m r.left.boundary ≡ boundary_of n r.left.boundary) × (boundary_of m r.right.boundary ≡ boundary_of n r.right.boundary)
   bounds k there a b l r h e =
-      let same : k ≡ r = some_is (sym there ∙ subst (λ (j : ℕ). lane_of m j ≡ some r) (only_three l h) e) in
+      let same : k ≡ r = some_is (sym there ∙ subst (λ (j : ℕ). lane_of m j ≡ Some r) (only_three l h) e) in
       subst (λ (x : Lane). (boundary_of m x.left.boundary ≡ boundary_of n x.left.boundary) × (boundary_of m x.right.boundary ≡ boundary_of n x.right.boundary)) same (a, b)
     where
-      some_is : {x y : Lane} → some x ≡ some y → x ≡ y
+      some_is : {x y : Lane} → Some x ≡ Some y → x ≡ y
       some_is q = cc
 
   of_three : lane_of m 3 ≡ lane_of n 3 → (l : ℕ) → member l (3 ∷ []) ≡ true → lane_of m l ≡ lane_of n l
   of_three e l h = subst (λ (j : ℕ). lane_of m j ≡ lane_of n j) (sym (only_three l h)) e
 
-  quay : (k : Lane) → lane_of m 3 ≡ some k → lane_of n 3 ≡ some k → boundary_of m k.left.boundary ≡ boundary_of n k.left.boundary → boundary_of m k.right.boundary ≡ boundary_of n k.right.boundary → SameQuay (3 ∷ []) m n
+  quay : (k : Lane) → lane_of m 3 ≡ Some k → lane_of n 3 ≡ Some k → boundary_of m k.left.boundary ≡ boundary_of n k.left.boundary → boundary_of m k.right.boundary ≡ boundary_of n k.right.boundary → SameQuay (3 ∷ []) m n
   quay k a b c d = record { lanes = of_three (a ∙ sym b); boundaries = bounds k a c d }
 
 -- the answer on the map of the worked crossings
@@ -151,7 +151,7 @@ abbrev lined : Map
 lined = yard 5 (plain ∷ []) sides (record { num = 4; geometry = origin ∷ origin ∷ [] } ∷ []) []
 
 abbrev shortened : Map
-shortened = yard 5 (lane3 1 2 (some (origin ∷ at3 (whole 5) f0 f0 ∷ [])) ∷ []) sides (record { num = 4; geometry = [] } ∷ []) []
+shortened = yard 5 (lane3 1 2 (Some (origin ∷ at3 (whole 5) f0 f0 ∷ [])) ∷ []) sides (record { num = 4; geometry = [] } ∷ []) []
 
 abbrev line5 : List ℕ
 line5 = drawn 5 left_to_right (across (whole 10) (whole 2))
@@ -172,7 +172,7 @@ centerline_needed = is_needed lanes lined shortened line5 line5_halfway shorter_
 
 -- the points are the same, and their names are not
 abbrev exchanged : Map
-exchanged = yard 4 (lane3 2 1 none ∷ []) sides [] []
+exchanged = yard 4 (lane3 2 1 None ∷ []) sides [] []
 
 abbrev line4_exchanged : List ℕ
 line4_exchanged = drawn 4 (1 ∷ 3 ∷ 1 ∷ 3 ∷ 0 ∷ []) (across (whole 10) (whole 2))

@@ -1,6 +1,5 @@
 -- Two quays, each with a map of its own: where a stop line is answered alike on both. What lies beside its lanes plays no part.
-use Rattle.std.specs.Prelude.{ℕ, ◌≡◌, true, List, length}
-use Rattle.std.proofs.Math.Option.{some}
+use Rattle.std.specs.Prelude.{ℕ, ◌≡◌, true, List, length, Some, Option, Result}
 use Rattle.refusal.specs.Answer.{Answer, refused, done, ◌>>◌}
 use Rattle.rows.specs.Lists.{member}
 use Rattle.map.specs.Record.{Lane, Map}
@@ -9,13 +8,14 @@ use Rattle.map.specs.Ceilings.{points}
 use Rattle.map.specs.MapFile.{is_map}
 use Rattle.changes.specs.Running.{State, opening}
 use Rattle.place.specs.Place.{Placed, check_lane_list, place_stop_line}
-use Rattle.edit.specs.declared.Called.{Called}
 use Rattle.edit.specs.Edit.{Outcome}
 use Rattle.edit.specs.Lent.{Lent, state_of, answered, CallLeft}
 use Rattle.edit.specs.StopLine.{NewStopLine, add_stop_line}
 use Rattle.finishing.specs.Finish.{lent_checks}
 use Rattle.run.specs.Run.{Edit, run_all}
 use Rattle.run.specs.Law.{passes}
+use Rattle.refusal.specs.declared.Refusal.{Refusal}
+use Rattle.place.specs.declared.SectionNames.{SectionNames}
 
 -- ---- what two maps agree on
 
@@ -25,7 +25,7 @@ same_lanes ls m n = (l : ℕ) → member l ls ≡ true → lane_of m l ≡ lane_
 
 -- so are the two boundaries that a requested lane names
 abbrev pub same_boundaries : List ℕ → Map → Map → Type 0
-same_boundaries ls m n = (l : ℕ) (r : Lane) → member l ls ≡ true → lane_of m l ≡ some r
+same_boundaries ls m n = (l : ℕ) (r : Lane) → member l ls ≡ true → lane_of m l ≡ Some r
     → (boundary_of m r.left.boundary ≡ boundary_of n r.left.boundary) × (boundary_of m r.right.boundary ≡ boundary_of n r.right.boundary)
 
 -- one series of numbers serves all kinds: the next of it is the same
@@ -88,21 +88,21 @@ placed_for a m = check_lane_list m a.lanes >> place_stop_line m a.lanes a.placem
 pub record Stored (a : NewStopLine) (m : Map) (o : Outcome) : Type 0 where
   pub placed : Placed
   pub placed_is : placed_for a m ≡ done placed
-  pub line : line_of o.state.map o.id ≡ some (record { num = o.id; geometry = placed.points })
+  pub line : line_of o.state.map o.id ≡ Some (record { num = o.id; geometry = placed.points })
 
 -- ---- of the code
 
 -- two calls returned the same value, and the memory that each left holds the same answer
-pub record SameReturn (r u : Called) (x y : Lent) : Type 0 where
+pub record SameReturn (r u : Result (ℕ × Option SectionNames) Refusal) (x y : Lent) : Type 0 where
   pub returned : r ≡ u
   pub answer : SameAnswer (answered r x) (answered u y)
 
 -- where both memories pass 12 and 13 and their maps agree on these lanes and have the same room, the two calls return alike
-abbrev pub ReturnAlike : List ℕ → Lent → Lent → Called → Called → Lent → Lent → Type 0
+abbrev pub ReturnAlike : List ℕ → Lent → Lent → Result (ℕ × Option SectionNames) Refusal → Result (ℕ × Option SectionNames) Refusal → Lent → Lent → Type 0
 ReturnAlike ls x y r u x' y' = lent_checks x ≡ done tt → lent_checks y ≡ done tt → SameQuay ls (state_of x).map (state_of y).map → SameRoom (state_of x).map (state_of y).map → SameReturn r u x' y'
 
 -- what two calls of `add_stop_line` for the same line leave: each what its contract says, and both alike
-pub record BothLeft (a : NewStopLine) (x y : Lent) (r u : Called) (x' y' : Lent) : Type 0 where
+pub record BothLeft (a : NewStopLine) (x y : Lent) (r u : Result (ℕ × Option SectionNames) Refusal) (x' y' : Lent) : Type 0 where
   pub first : CallLeft (add_stop_line a) x r x'
   pub second : CallLeft (add_stop_line a) y u y'
   pub alike : ReturnAlike a.lanes x y r u x' y'
@@ -120,4 +120,4 @@ pub record TwoQuays (a : NewStopLine) : Type 0 where
       → SameQuay a.lanes (run_all es (opening m)).map (run_all fs (opening n)).map → SameRoom (run_all es (opening m)).map (run_all fs (opening n)).map
       → Alike a (run_all es (opening m)) (run_all fs (opening n))
   -- so two lent memories, by the contract of `add_stop_line`
-  pub calls : (x y : Lent) (r u : Called) (x' y' : Lent) → CallLeft (add_stop_line a) x r x' → CallLeft (add_stop_line a) y u y' → ReturnAlike a.lanes x y r u x' y'
+  pub calls : (x y : Lent) (r u : Result (ℕ × Option SectionNames) Refusal) (x' y' : Lent) → CallLeft (add_stop_line a) x r x' → CallLeft (add_stop_line a) y u y' → ReturnAlike a.lanes x y r u x' y'

@@ -1,7 +1,7 @@
 -- What an accepted call says of the numbers that it names, and of the parts of a shape.
 use mathlib.Core.Path.{◌≡◌, refl, sym, ap, subst}
 use mathlib.Core.Bool.{Bool, true, false, ◌&&◌, cond}
-use mathlib.Core.Option.{Option, none, some}
+use Rattle.std.specs.Prelude.{Option, None, Some}
 use mathlib.Core.List.{List, [], ◌∷◌}
 use Prim.Native.Nat.{ℕ, suc, ◌<◌, ◌≤◌, ◌^◌}
 use lib.Dec.{ltb}
@@ -23,19 +23,19 @@ use Rattle.place.proofs.Answers.{never, next, past}
 use Rattle.run.proofs.Shape.{Fresh}
 use Rattle.run.proofs.Told.{gone_at, touched_at, kept_not_gone, kept_untouched}
 
-pub unfound : {u : Unit {0}} (o : Option ℕ) (k : ℕ) → refuse_found o k ≡ done u → o ≡ none
-unfound none k e = refl
-unfound (some n) k e = never e
+pub unfound : {u : Unit {0}} (o : Option ℕ) (k : ℕ) → refuse_found o k ≡ done u → o ≡ None
+unfound None k e = refl
+unfound (Some n) k e = never e
 
 -- ---- known numbers are below the next one
 
 module _ (m : Map) (ok : is_map m ≡ true) {A : Type 0} (num : A → ℕ) (t : List A) (r : rising num 0 m.next t ≡ true) where
-  pub known : (ns : List ℕ) → unknown_in num t ns ≡ none → every (λ n. ltb n m.next) ns ≡ true
+  pub known : (ns : List ℕ) → unknown_in num t ns ≡ None → every (λ n. ltb n m.next) ns ≡ true
   unfolding unknown_in first_of every
   known [] e = refl
   known (n ∷ ns) e = go (holds num n t) refl e (known ns)
     where
-      go : (b : Bool) → holds num n t ≡ b → or_else (cond b none (some n)) (unknown_in num t ns) ≡ none → (unknown_in num t ns ≡ none → every (λ k. ltb k m.next) ns ≡ true)
+      go : (b : Bool) → holds num n t ≡ b → or_else (cond b None (Some n)) (unknown_in num t ns) ≡ None → (unknown_in num t ns ≡ None → every (λ k. ltb k m.next) ns ≡ true)
           → (ltb n m.next && every (λ k. ltb k m.next) ns) ≡ true
       go true h e k = and_i _ _ (lt-ltb n m.next (held_below m ok num t n r h)) (k e)
       go false h e k = let z : ◌≡◌ {A = ℕ} 0 1 = cc in absurd (omega arith)
@@ -58,28 +58,28 @@ below_fits h k (n ∷ ns) e = go (ltb-true n h (search parts)) (below_fits h k n
 -- ---- parts of a shape: nothing new, one new record, no rule changed
 
 module _ {A : Type 0} where
-  pub no_fresh : (num : A → ℕ) (l h : ℕ) → Fresh num l h none
+  pub no_fresh : (num : A → ℕ) (l h : ℕ) → Fresh num l h None
   no_fresh num l h x e = let z : ◌≡◌ {A = ℕ} 0 1 = cc in absurd (omega arith)
 
-  pub is_fresh : (num : A → ℕ) (l h : ℕ) (y : A) → l ≤ num y → num y < h → Fresh num l h (some y)
+  pub is_fresh : (num : A → ℕ) (l h : ℕ) (y : A) → l ≤ num y → num y < h → Fresh num l h (Some y)
   is_fresh num l h y p q x e = let r : y ≡ x = cc in subst (λ (z : A). (l ≤ num z) × (num z < h)) r (p, q)
 
-  pub no_ok : (p : A → Bool) (x : A) → ◌≡◌ {A = Option A} none (some x) → p x ≡ true
+  pub no_ok : (p : A → Bool) (x : A) → ◌≡◌ {A = Option A} None (Some x) → p x ≡ true
   no_ok p x e = let z : ◌≡◌ {A = ℕ} 0 1 = cc in absurd (omega arith)
 
-  pub is_ok : (p : A → Bool) (y : A) → p y ≡ true → (x : A) → some y ≡ some x → p x ≡ true
+  pub is_ok : (p : A → Bool) (y : A) → p y ≡ true → (x : A) → Some y ≡ Some x → p x ≡ true
   is_ok p y t x e = let r : y ≡ x = cc in subst (λ (z : A). p z ≡ true) r t
 
-  pub kept_same : (num : A → ℕ) (x y : A) → some x ≡ some y → num y ≡ num x
+  pub kept_same : (num : A → ℕ) (x y : A) → Some x ≡ Some y → num y ≡ num x
   kept_same num x y e = let q : x ≡ y = cc in ap num (sym q)
 
-  pub kept_ok : (p : A → Bool) (x y : A) → p x ≡ true → some x ≡ some y → p y ≡ true
+  pub kept_ok : (p : A → Bool) (x y : A) → p x ≡ true → Some x ≡ Some y → p y ≡ true
   kept_ok p x y t e = let q : x ≡ y = cc in subst (λ (z : A). p z ≡ true) q t
 
-pub none_gone : {A : Type 0} (b : Bool) (o : Option A) → false ≡ (b && gone_at some o)
+pub none_gone : {A : Type 0} (b : Bool) (o : Option A) → false ≡ (b && gone_at Some o)
 none_gone b o = rw (kept_not_gone o) (sym (and_no b))
 
-pub none_touched : {A : Type 0} (w : A → Bytes) (b : Bool) (o : Option A) → false ≡ (b && touched_at w some o)
+pub none_touched : {A : Type 0} (w : A → Bytes) (b : Bool) (o : Option A) → false ≡ (b && touched_at w Some o)
 none_touched w b o = rw (kept_untouched w o) (sym (and_no b))
 
 -- ---- the new numbers rise

@@ -1,7 +1,7 @@
 -- One call: what it says of the draft that it finished, and from that the law of one call, on any state.
 use mathlib.Core.Path.{◌≡◌, refl, sym, ap, ◌∙◌, subst}
 use mathlib.Core.Bool.{Bool, true, false, not, ◌&&◌, ◌||◌}
-use mathlib.Core.Option.{Option, none, some}
+use Rattle.std.specs.Prelude.{Option, None, Some}
 use mathlib.Core.List.{List, [], append-nil}
 use Prim.Native.Nat.{ℕ, ◌≤◌}
 use native.Mathlib.Omega.{arith}
@@ -114,10 +114,10 @@ ended e s o q = go (sym (one_call e s) ∙ q)
 
 frame_one : (f g : Option Bytes) → ((is_some g && not (is_some f)) || (is_some f && is_some g && differ f g) || (is_some f && not (is_some g)) || same_form f g) ≡ true
 unfolding differ same_form
-frame_one none none = refl
-frame_one none (some y) = refl
-frame_one (some x) none = refl
-frame_one (some x) (some y) = go (same_list x y)
+frame_one None None = refl
+frame_one None (Some y) = refl
+frame_one (Some x) None = refl
+frame_one (Some x) (Some y) = go (same_list x y)
   where
     go : (b : Bool) → (not b || false || b) ≡ true
     go true = refl

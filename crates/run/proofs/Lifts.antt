@@ -1,7 +1,7 @@
 -- What lifting the stop rules does to the table of rules, and what is said of it.
 use mathlib.Core.Path.{◌≡◌, refl, sym, ap, subst, ◌∙◌}
 use mathlib.Core.Bool.{Bool, true, false, not, ◌&&◌, ◌||◌, cond}
-use mathlib.Core.Option.{Option, none, some}
+use Rattle.std.specs.Prelude.{Option, None, Some}
 use mathlib.Core.List.{List, [], ◌∷◌, ◌++◌, append_assoc, append_cancel_left}
 use Prim.Native.Nat.{ℕ, suc, ◌<◌, ◌≤◌, ◌^◌}
 use lib.Dec.{eqb, leb}
@@ -32,22 +32,22 @@ use Rattle.run.proofs.Told.{differ_self}
 -- ---- the table
 
 abbrev pub as_lifted : Rule → Lift → Option Rule
-as_lifted r kept = some r
-as_lifted r (eased ks) = some (rule_with r r.body ks r.controlled)
-as_lifted r gone = none
+as_lifted r kept = Some r
+as_lifted r (eased ks) = Some (rule_with r r.body ks r.controlled)
+as_lifted r gone = None
 
 -- what is left of a rule under a light on the line l
 abbrev pub lift_by : Option ℕ → List ℕ → Rule → Option Rule
-lift_by none lanes r = some r
-lift_by (some s) lanes r = as_lifted r (lift s lanes r)
+lift_by None lanes r = Some r
+lift_by (Some s) lanes r = as_lifted r (lift s lanes r)
 
-pub lift-all : (s : ℕ) (lanes : List ℕ) (t : List Rule) → joined (λ r. lifted r (lift s lanes r)) t ≡ changed (lift_by (some s) lanes) t
+pub lift-all : (s : ℕ) (lanes : List ℕ) (t : List Rule) → joined (λ r. lifted r (lift s lanes r)) t ≡ changed (lift_by (Some s) lanes) t
 unfolding joined changed lifted
 lift-all s lanes [] = refl
 lift-all s lanes (r ∷ t) = go (lift s lanes r) (lift-all s lanes t)
   where
-    go : (l : Lift) → joined (λ r. lifted r (lift s lanes r)) t ≡ changed (lift_by (some s) lanes) t
-        → lifted r l ++ joined (λ r. lifted r (lift s lanes r)) t ≡ one (as_lifted r l) ++ changed (lift_by (some s) lanes) t
+    go : (l : Lift) → joined (λ r. lifted r (lift s lanes r)) t ≡ changed (lift_by (Some s) lanes) t
+        → lifted r l ++ joined (λ r. lifted r (lift s lanes r)) t ≡ one (as_lifted r l) ++ changed (lift_by (Some s) lanes) t
     go kept h = ap {B = List Rule} (λ x. r ∷ x) h
     go (eased ks) h = ap {B = List Rule} (λ x. rule_with r r.body ks r.controlled ∷ x) h
     go gone h = h
@@ -64,8 +64,8 @@ module _ {A : Type 0} where
   changed_twice f g (x ∷ t) = go (f x) (changed_twice f g t)
     where
       go : (o : Option A) → changed g (changed f t) ≡ changed (λ x. from_some (f x) g) t → changed g (one o ++ changed f t) ≡ one (from_some o g) ++ changed (λ x. from_some (f x) g) t
-      go none h = h
-      go (some y) h = ap {B = List A} (λ r. one (g y) ++ r) h
+      go None h = h
+      go (Some y) h = ap {B = List A} (λ r. one (g y) ++ r) h
 
   pub joined-append : {B : Type 0} (f : A → List B) (s t : List A) → joined f (s ++ t) ≡ joined f s ++ joined f t
   unfolding joined
@@ -79,8 +79,8 @@ ref_if true n = entity 8 n ∷ []
 ref_if false n = []
 
 abbrev at : (Rule → Bool) → Option Rule → Bool
-at p none = false
-at p (some x) = p x
+at p None = false
+at p (Some x) = p x
 
 -- what a list of such references lists
 module _ (p : Rule → Bool) (f : Rule → List EntityRef) (is : (r : Rule) → f r ≡ ref_if (p r) r.num) where
@@ -91,14 +91,14 @@ module _ (p : Rule → Bool) (f : Rule → List EntityRef) (is : (r : Rule) → 
       rw (listed-append (f x) (joined f t) a, is x, listed_joined (suc x.num) h t a (search parts))
       (go (p x) (eqb x.num a.num) (eqb a.kind 8) refl refl refl (later (find (λ r. r.num) a.num t) refl))
     where
-      later : (o : Option Rule) → find (λ r. r.num) a.num t ≡ o → x.num ≡ a.num → o ≡ none
-      later none q e = refl
-      later (some y) q e =
+      later : (o : Option Rule) → find (λ r. r.num) a.num t ≡ o → x.num ≡ a.num → o ≡ None
+      later None q e = refl
+      later (Some y) q e =
           let w = found_is (λ (r : Rule). r.num) a.num t (λ r. leb (suc x.num) r.num) y (rising_above (λ (r : Rule). r.num) (suc x.num) h t (search parts)) q in
           let u = leb-true (suc x.num) y.num w.0 in let v = w.1 in absurd (omega arith)
 
-      go : (b c k : Bool) → p x ≡ b → eqb x.num a.num ≡ c → eqb a.kind 8 ≡ k → (x.num ≡ a.num → find (λ r. r.num) a.num t ≡ none)
-          → (listed (ref_if b x.num) a || (k && at p (find (λ r. r.num) a.num t))) ≡ (k && at p (cond c (some x) (find (λ r. r.num) a.num t)))
+      go : (b c k : Bool) → p x ≡ b → eqb x.num a.num ≡ c → eqb a.kind 8 ≡ k → (x.num ≡ a.num → find (λ r. r.num) a.num t ≡ None)
+          → (listed (ref_if b x.num) a || (k && at p (find (λ r. r.num) a.num t))) ≡ (k && at p (cond c (Some x) (find (λ r. r.num) a.num t)))
       go true true true e f g z = rw (same_as 8 x.num a, g, f, e)
       go true true false e f g z = rw (same_as 8 x.num a, g)
       go true false true e f g z = rw (same_as 8 x.num a, g, f)
@@ -209,17 +209,17 @@ fewer_differs r ks f h d = list_differs _ _ (λ e. d (count (append_cancel_left 
         (sym (append_assoc (number.write (length r.lanes)) (joined number.write r.lanes) _) ∙ e ∙ append_assoc (number.write (length ks)) (joined number.write ks) _)).0
 
 -- what is told of a rule x that becomes y before the lift: it is the same, or it is a light and shows the change
-pub lift_touched : (s : ℕ) (lanes : List ℕ) (x : Rule) → rule_within x ≡ true → is_eased (lift s lanes x) ≡ differ (some (rule.write x)) (form_in rule.write (lift_by (some s) lanes x))
+pub lift_touched : (s : ℕ) (lanes : List ℕ) (x : Rule) → rule_within x ≡ true → is_eased (lift s lanes x) ≡ differ (Some (rule.write x)) (form_in rule.write (lift_by (Some s) lanes x))
 unfolding form_in differ
 lift_touched s lanes x f = go (lift s lanes x) (lift_is s lanes x)
   where
-    go : (k : Lift) → Lifted s lanes x k → is_eased k ≡ differ (some (rule.write x)) (form_in rule.write (as_lifted x k))
-    go kept (off e) = sym (differ_self (some (rule.write x)))
-    go kept (clear e) = sym (differ_self (some (rule.write x)))
+    go : (k : Lift) → Lifted s lanes x k → is_eased k ≡ differ (Some (rule.write x)) (form_in rule.write (as_lifted x k))
+    go kept (off e) = sym (differ_self (Some (rule.write x)))
+    go kept (clear e) = sym (differ_self (Some (rule.write x)))
     go (eased ks) (less e d) = rw (fewer_differs x ks f (let u = keep_shorter (λ n. not (member n lanes)) x.lanes in let v = (short_lists x f).0 in let w : length ks ≡ length (keep (λ n. not (member n lanes)) x.lanes) = ap length e in omega arith) d)
     go gone none_left = refl
 
-pub lift_gone : (s : ℕ) (lanes : List ℕ) (x : Rule) → is_gone (lift s lanes x) ≡ not (is_some (lift_by (some s) lanes x))
+pub lift_gone : (s : ℕ) (lanes : List ℕ) (x : Rule) → is_gone (lift s lanes x) ≡ not (is_some (lift_by (Some s) lanes x))
 lift_gone s lanes x = go (lift s lanes x)
   where
     go : (k : Lift) → is_gone k ≡ not (is_some (as_lifted x k))
@@ -227,21 +227,21 @@ lift_gone s lanes x = go (lift s lanes x)
     go (eased ks) = refl
     go gone = refl
 
-pub lift_same : (l : Option ℕ) (lanes : List ℕ) (x y : Rule) → lift_by l lanes x ≡ some y → y.num ≡ x.num
-lift_same none lanes x y e = let q : x ≡ y = cc in ap (λ (r : Rule). r.num) (sym q)
-lift_same (some s) lanes x y e = go (lift s lanes x) e
+pub lift_same : (l : Option ℕ) (lanes : List ℕ) (x y : Rule) → lift_by l lanes x ≡ Some y → y.num ≡ x.num
+lift_same None lanes x y e = let q : x ≡ y = cc in ap (λ (r : Rule). r.num) (sym q)
+lift_same (Some s) lanes x y e = go (lift s lanes x) e
   where
-    go : (k : Lift) → as_lifted x k ≡ some y → y.num ≡ x.num
+    go : (k : Lift) → as_lifted x k ≡ Some y → y.num ≡ x.num
     go kept e = let q : x ≡ y = cc in ap (λ (r : Rule). r.num) (sym q)
     go (eased ks) e = let q : rule_with x x.body ks x.controlled ≡ y = cc in ap (λ (r : Rule). r.num) (sym q)
     go gone e = let z : ◌≡◌ {A = ℕ} 0 1 = cc in absurd (omega arith)
 
-pub lift_ok : (l : Option ℕ) (lanes : List ℕ) (x y : Rule) → rule_ok x ≡ true → lift_by l lanes x ≡ some y → rule_ok y ≡ true
+pub lift_ok : (l : Option ℕ) (lanes : List ℕ) (x y : Rule) → rule_ok x ≡ true → lift_by l lanes x ≡ Some y → rule_ok y ≡ true
 unfolding rule_ok
-lift_ok none lanes x y h e = let q : x ≡ y = cc in subst (λ (r : Rule). rule_ok r ≡ true) q h
-lift_ok (some s) lanes x y h e = go (lift s lanes x) (lift_is s lanes x) e
+lift_ok None lanes x y h e = let q : x ≡ y = cc in subst (λ (r : Rule). rule_ok r ≡ true) q h
+lift_ok (Some s) lanes x y h e = go (lift s lanes x) (lift_is s lanes x) e
   where
-    go : (k : Lift) → Lifted s lanes x k → as_lifted x k ≡ some y → rule_ok y ≡ true
+    go : (k : Lift) → Lifted s lanes x k → as_lifted x k ≡ Some y → rule_ok y ≡ true
     go kept (off f) e = let q : x ≡ y = cc in subst (λ (r : Rule). rule_ok r ≡ true) q h
     go kept (clear f) e = let q : x ≡ y = cc in subst (λ (r : Rule). rule_ok r ≡ true) q h
     go (eased ks) (less f d) e =
@@ -252,10 +252,10 @@ lift_ok (some s) lanes x y h e = go (lift s lanes x) (lift_is s lanes x) e
 
 -- ---- no stop rule is left: what the light promises
 
-pub lift_clears : (s : ℕ) (lanes : List ℕ) (x y : Rule) → lift_by (some s) lanes x ≡ some y → (not (is_stop_at s y.body) || every (λ n. not (member n lanes)) y.lanes) ≡ true
+pub lift_clears : (s : ℕ) (lanes : List ℕ) (x y : Rule) → lift_by (Some s) lanes x ≡ Some y → (not (is_stop_at s y.body) || every (λ n. not (member n lanes)) y.lanes) ≡ true
 lift_clears s lanes x y e = go (lift s lanes x) (lift_is s lanes x) e
   where
-    go : (k : Lift) → Lifted s lanes x k → as_lifted x k ≡ some y → (not (is_stop_at s y.body) || every (λ n. not (member n lanes)) y.lanes) ≡ true
+    go : (k : Lift) → Lifted s lanes x k → as_lifted x k ≡ Some y → (not (is_stop_at s y.body) || every (λ n. not (member n lanes)) y.lanes) ≡ true
     go kept (off f) e = let q : y ≡ x = cc in rw (q, f)
     go kept (clear f) e = let q : y ≡ x = cc in rw q (or_r (not (is_stop_at s x.body)) f)
     go (eased ks) (less f d) e =

@@ -1,7 +1,7 @@
 -- The line of a light in the law's own words is the one that the edit takes, and no stop rule of its lanes is left on it.
 use mathlib.Core.Path.{◌≡◌, refl, subst, ◌∙◌}
 use mathlib.Core.Bool.{Bool, true, false, not, ◌&&◌, ◌||◌, cond}
-use mathlib.Core.Option.{Option, none, some}
+use Rattle.std.specs.Prelude.{Option, None, Some}
 use mathlib.Core.List.{List, [], ◌∷◌, ◌++◌}
 use Prim.Native.Nat.{ℕ, max}
 use lib.Dec.{eqb}
@@ -41,31 +41,31 @@ own_is (crossing c stop_lines) = refl
 own_is (other k) = refl
 
 next_else : (a b : Option ℕ) → or_next a b ≡ or_else a b
-next_else none b = refl
-next_else (some s) b = refl
+next_else None b = refl
+next_else (Some s) b = refl
 
-lane_line : (n : ℕ) (rs : List Rule) → line_on_lane n rs ≡ first_of (λ r. cond (member n r.lanes) (stops_at r.body) none) rs
+lane_line : (n : ℕ) (rs : List Rule) → line_on_lane n rs ≡ first_of (λ r. cond (member n r.lanes) (stops_at r.body) None) rs
 unfolding line_on_lane first_of
 lane_line n [] = refl
-lane_line n (r ∷ rs) = rw (lane_line n rs, own_is r.body) (go (member n r.lanes) (first_of (λ r. cond (member n r.lanes) (stops_at r.body) none) rs))
+lane_line n (r ∷ rs) = rw (lane_line n rs, own_is r.body) (go (member n r.lanes) (first_of (λ r. cond (member n r.lanes) (stops_at r.body) None) rs))
   where
-    go : (b : Bool) (rest : Option ℕ) → cond b (or_next (stops_at r.body) rest) rest ≡ or_else (cond b (stops_at r.body) none) rest
+    go : (b : Bool) (rest : Option ℕ) → cond b (or_next (stops_at r.body) rest) rest ≡ or_else (cond b (stops_at r.body) None) rest
     go true rest = next_else (stops_at r.body) rest
     go false rest = refl
 
-pub rule_line : (n : ℕ) (rs : List Rule) (r : Rule) → find (λ x. x.num) n rs ≡ some r → line_of_rule n rs ≡ stops_at r.body
+pub rule_line : (n : ℕ) (rs : List Rule) (r : Rule) → find (λ x. x.num) n rs ≡ Some r → line_of_rule n rs ≡ stops_at r.body
 unfolding line_of_rule find
 rule_line n [] r e = let z : ◌≡◌ {A = ℕ} 0 1 = cc in absurd (omega arith)
 rule_line n (x ∷ rs) r e = go (eqb x.num n) e (rule_line n rs r)
   where
-    go : (b : Bool) → cond b (some x) (find (λ y. y.num) n rs) ≡ some r → (find (λ y. y.num) n rs ≡ some r → line_of_rule n rs ≡ stops_at r.body) → cond b (own_line x.body) (line_of_rule n rs) ≡ stops_at r.body
+    go : (b : Bool) → cond b (Some x) (find (λ y. y.num) n rs) ≡ Some r → (find (λ y. y.num) n rs ≡ Some r → line_of_rule n rs ≡ stops_at r.body) → cond b (own_line x.body) (line_of_rule n rs) ≡ stops_at r.body
     go true e k = let q : x ≡ r = cc in rw q (own_is r.body)
     go false e k = k e
 
 pub group_line_lem : (m : Map) (k g : Option ℕ) → group_line m k ≡ done g → groups_line k m.rules ≡ g
 unfolding group_line groups_line rule_of
-group_line_lem m none g e = done_is e
-group_line_lem m (some k) g e =
+group_line_lem m None g e = done_is e
+group_line_lem m (Some k) g e =
     let p₁ = went (present (find (λ x. x.num) k m.rules) 2 (8 ∷ k ∷ [])) _ g e in
     let r = p₁.value in
     let p₂ = past (not (no_entries r.controlled)) 7 (1 ∷ []) _ g p₁.rest in
@@ -84,7 +84,7 @@ unfolding check_lane_list first_lanes_line existing_stop_line
 first_line m [] u e = let p = past (no_entries []) 1 [] _ u e in unfold no_entries in clash refl p.test
 first_line m (n ∷ ns) u e = lane_line n m.rules
 
-drawn_line : (m : Map) (lanes : List ℕ) (how : Placement) (cs : List Float) (pl : Plan) → draw_plan m lanes how cs ≡ done pl → (line_drawn m pl).line ≡ some (fresh m)
+drawn_line : (m : Map) (lanes : List ℕ) (how : Placement) (cs : List Float) (pl : Plan) → draw_plan m lanes how cs ≡ done pl → (line_drawn m pl).line ≡ Some (fresh m)
 unfolding draw_plan line_drawn
 drawn_line m lanes how cs pl e = let q = went (place_stop_line m lanes how cs) _ pl e in rw (← done_is q.rest)
 
@@ -92,14 +92,14 @@ plan_line : (m : Map) (lanes : List ℕ) (g : Option ℕ) (c : StopLineChoice) (
     → (line_drawn m pl).line ≡ chosen_line c (max 1 m.next) g (existing_stop_line m (get_or lanes 0 0))
 unfolding plan_for chosen_line
 plan_line m lanes g (Existing s) cs pl e = unfold line_drawn in rw (← done_is e)
-plan_line m lanes none NoLine cs pl e = unfold line_drawn in rw (← done_is e)
-plan_line m lanes (some s) NoLine cs pl e = unfold line_drawn in rw (← done_is e)
+plan_line m lanes None NoLine cs pl e = unfold line_drawn in rw (← done_is e)
+plan_line m lanes (Some s) NoLine cs pl e = unfold line_drawn in rw (← done_is e)
 plan_line m lanes g (New how) cs pl e = drawn_line m lanes how cs pl e
 plan_line m lanes g Automatic cs pl e = rw (next_else g (existing_stop_line m (get_or lanes 0 0))) (go (or_else g (existing_stop_line m (get_or lanes 0 0))) e)
   where
-    go : (o : Option ℕ) → auto_plan m lanes o ≡ done pl → (line_drawn m pl).line ≡ some (found_or (max 1 m.next) o)
-    go none e = unfold auto_plan in drawn_line m lanes (AtLaneEnd f0) [] pl e
-    go (some s) e = unfold auto_plan line_drawn in rw (← done_is e)
+    go : (o : Option ℕ) → auto_plan m lanes o ≡ done pl → (line_drawn m pl).line ≡ Some (found_or (max 1 m.next) o)
+    go None e = unfold auto_plan in drawn_line m lanes (AtLaneEnd f0) [] pl e
+    go (Some s) e = unfold auto_plan line_drawn in rw (← done_is e)
 
 pub light_line_lem : (a : NewTrafficSignal) (m : Map) (p : Planned) → light_plan a m ≡ done p → (line_drawn m p.plan).line ≡ lights_line a m
 unfolding lights_line
@@ -119,27 +119,27 @@ not_meets ls (n ∷ ns) = go (member n ls) (not_meets ls ns)
     go true h = refl
     go false h = h
 
-every_made : {A : Type 0} (f : A → Option A) (p : A → Bool) (t : List A) → ((x y : A) → f x ≡ some y → p y ≡ true) → every p (changed f t) ≡ true
+every_made : {A : Type 0} (f : A → Option A) (p : A → Bool) (t : List A) → ((x y : A) → f x ≡ Some y → p y ≡ true) → every p (changed f t) ≡ true
 unfolding every changed
 every_made f p [] k = refl
 every_made f p (x ∷ t) k = go (f x) refl (every_made f p t k)
   where
     go : (o : Option _) → f x ≡ o → every p (changed f t) ≡ true → every p (one o ++ changed f t) ≡ true
-    go none e h = h
-    go (some y) e h = and_i (p y) _ (k x y e) h
+    go None e h = h
+    go (Some y) e h = and_i (p y) _ (k x y e) h
 
 -- what the edit tests is what the law speaks of
 stop_is : (s : ℕ) (w : RuleBody) → is_stop_at s w ≡ is_line s (halt_line w)
 unfolding is_stop_at is_line halt_line
 stop_is s (light signals line) = refl
-stop_is s (sign type shape none) = go (eqb type 1)
+stop_is s (sign type shape None) = go (eqb type 1)
   where
-    go : (b : Bool) → false ≡ is_line s (cond b none none)
+    go : (b : Bool) → false ≡ is_line s (cond b None None)
     go true = refl
     go false = refl
-stop_is s (sign type shape (some line)) = go (eqb type 1)
+stop_is s (sign type shape (Some line)) = go (eqb type 1)
   where
-    go : (b : Bool) → (b && eqb line s) ≡ is_line s (cond b (some line) none)
+    go : (b : Bool) → (b && eqb line s) ≡ is_line s (cond b (Some line) None)
     go true = refl
     go false = refl
 stop_is s (marking line) = refl
@@ -149,14 +149,14 @@ stop_is s (other k) = refl
 
 clears : (lanes : List ℕ) (d : Drawing) (l : Option ℕ) → no_stop l lanes (lift_all lanes d l).map ≡ true
 unfolding no_stop
-clears lanes d none = refl
-clears lanes d (some s) = rw (lifts_map lanes d (some s)) (every_made (lift_by (some s) lanes) (λ r. not (is_line s (halt_line r.body) && meets lanes r.lanes)) d.map.rules each)
+clears lanes d None = refl
+clears lanes d (Some s) = rw (lifts_map lanes d (Some s)) (every_made (lift_by (Some s) lanes) (λ r. not (is_line s (halt_line r.body) && meets lanes r.lanes)) d.map.rules each)
   where
     demorgan : (b c : Bool) → (not b || not c) ≡ not (b && c)
     demorgan true c = refl
     demorgan false c = refl
 
-    each : (x y : Rule) → lift_by (some s) lanes x ≡ some y → not (is_line s (halt_line y.body) && meets lanes y.lanes) ≡ true
+    each : (x y : Rule) → lift_by (Some s) lanes x ≡ Some y → not (is_line s (halt_line y.body) && meets lanes y.lanes) ≡ true
     each x y e = rw (← stop_is s y.body, ← demorgan (is_stop_at s y.body) (meets lanes y.lanes), ← not_meets lanes y.lanes) (lift_clears s lanes x y e)
 
 -- an accepted light leaves no stop rule of its lanes on its line

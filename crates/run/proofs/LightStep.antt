@@ -1,7 +1,7 @@
 -- The light's draft has the shape.
 use mathlib.Core.Path.{◌≡◌, refl, sym, ap, subst, ◌∙◌}
 use mathlib.Core.Bool.{Bool, true, false, not, ◌&&◌, ◌||◌, cond}
-use mathlib.Core.Option.{Option, none, some}
+use Rattle.std.specs.Prelude.{Option, None, Some}
 use mathlib.Core.List.{List, [], ◌∷◌, ◌++◌, append-nil, append_assoc, append_cancel_left, map}
 use Prim.Native.Nat.{ℕ, suc, ◌+◌, ◌<◌, ◌≤◌, ◌^◌}
 use lib.Dec.{eqb, ltb}
@@ -72,41 +72,41 @@ light_kept s lanes y i = rw (go y.body i)
     go w is_light = unfold is_stop_at in refl
 
 abbrev eased_by : Option ℕ → List ℕ → Rule → Bool
-eased_by none lanes r = false
-eased_by (some s) lanes r = is_eased (lift s lanes r)
+eased_by None lanes r = false
+eased_by (Some s) lanes r = is_eased (lift s lanes r)
 
 abbrev gone_by : Option ℕ → List ℕ → Rule → Bool
-gone_by none lanes r = false
-gone_by (some s) lanes r = is_gone (lift s lanes r)
+gone_by None lanes r = false
+gone_by (Some s) lanes r = is_gone (lift s lanes r)
 
 abbrev at : (Rule → Bool) → Option Rule → Bool
-at p none = false
-at p (some x) = p x
+at p None = false
+at p (Some x) = p x
 
-light_stays : (l : Option ℕ) (lanes : List ℕ) (y : Rule) → IsLight y.body → lift_by l lanes y ≡ some y
-light_stays none lanes y i = refl
-light_stays (some s) lanes y i = rw (light_kept s lanes y i)
+light_stays : (l : Option ℕ) (lanes : List ℕ) (y : Rule) → IsLight y.body → lift_by l lanes y ≡ Some y
+light_stays None lanes y i = refl
+light_stays (Some s) lanes y i = rw (light_kept s lanes y i)
 
 light_uneased : (l : Option ℕ) (lanes : List ℕ) (y : Rule) → IsLight y.body → eased_by l lanes y ≡ false
-light_uneased none lanes y i = refl
-light_uneased (some s) lanes y i = rw (light_kept s lanes y i)
+light_uneased None lanes y i = refl
+light_uneased (Some s) lanes y i = rw (light_kept s lanes y i)
 
 light_not_gone : (l : Option ℕ) (lanes : List ℕ) (y : Rule) → IsLight y.body → gone_by l lanes y ≡ false
-light_not_gone none lanes y i = refl
-light_not_gone (some s) lanes y i = rw (light_kept s lanes y i)
+light_not_gone None lanes y i = refl
+light_not_gone (Some s) lanes y i = rw (light_kept s lanes y i)
 
 -- ---- what lifting leaves of a drawing
 
 module _ (lanes : List ℕ) (d : Drawing) where
   pub lifts_map : (l : Option ℕ) → (lift_all lanes d l).map ≡ with_rules d.map (changed (lift_by l lanes) d.map.rules)
   unfolding lift_all
-  lifts_map none = ap {B = Map} (with_rules d.map) (sym (changed_some d.map.rules))
-  lifts_map (some s) = ap {B = Map} (with_rules d.map) (lift-all s lanes d.map.rules)
+  lifts_map None = ap {B = Map} (with_rules d.map) (sym (changed_some d.map.rules))
+  lifts_map (Some s) = ap {B = Map} (with_rules d.map) (lift-all s lanes d.map.rules)
 
   lifts_created : (l : Option ℕ) → (lift_all lanes d l).created ≡ d.created
   unfolding lift_all
-  lifts_created none = refl
-  lifts_created (some s) = refl
+  lifts_created None = refl
+  lifts_created (Some s) = refl
 
   or_and_no : (b c : Bool) → b ≡ (b || (c && false))
   or_and_no true c = refl
@@ -116,22 +116,22 @@ module _ (lanes : List ℕ) (d : Drawing) where
   lifts_modified : (l : Option ℕ) (h : ℕ) (a : EntityRef) → rising (λ r. r.num) 0 h d.map.rules ≡ true
       → listed (lift_all lanes d l).modified a ≡ (listed d.modified a || (eqb a.kind 8 && at (eased_by l lanes) (find (λ r. r.num) a.num d.map.rules)))
   unfolding lift_all
-  lifts_modified none h a r = rw (never_at (find (λ r. r.num) a.num d.map.rules)) (or_and_no (listed d.modified a) (eqb a.kind 8))
+  lifts_modified None h a r = rw (never_at (find (λ r. r.num) a.num d.map.rules)) (or_and_no (listed d.modified a) (eqb a.kind 8))
     where
       never_at : (o : Option Rule) → at (λ r. false) o ≡ false
-      never_at none = refl
-      never_at (some x) = refl
-  lifts_modified (some s) h a r = rw (listed-append d.modified (joined (λ r. eased_ref r (lift s lanes r)) d.map.rules) a, listed_eased s lanes 0 h d.map.rules a r)
+      never_at None = refl
+      never_at (Some x) = refl
+  lifts_modified (Some s) h a r = rw (listed-append d.modified (joined (λ r. eased_ref r (lift s lanes r)) d.map.rules) a, listed_eased s lanes 0 h d.map.rules a r)
 
   lifts_deleted : (l : Option ℕ) (h : ℕ) (a : EntityRef) → rising (λ r. r.num) 0 h d.map.rules ≡ true
       → listed (lift_all lanes d l).deleted a ≡ (listed d.deleted a || (eqb a.kind 8 && at (gone_by l lanes) (find (λ r. r.num) a.num d.map.rules)))
   unfolding lift_all
-  lifts_deleted none h a r = rw (never_at (find (λ r. r.num) a.num d.map.rules)) (or_and_no (listed d.deleted a) (eqb a.kind 8))
+  lifts_deleted None h a r = rw (never_at (find (λ r. r.num) a.num d.map.rules)) (or_and_no (listed d.deleted a) (eqb a.kind 8))
     where
       never_at : (o : Option Rule) → at (λ r. false) o ≡ false
-      never_at none = refl
-      never_at (some x) = refl
-  lifts_deleted (some s) h a r = rw (listed-append d.deleted (joined (λ r. gone_ref r (lift s lanes r)) d.map.rules) a, listed_gone s lanes 0 h d.map.rules a r)
+      never_at None = refl
+      never_at (Some x) = refl
+  lifts_deleted (Some s) h a r = rw (listed-append d.deleted (joined (λ r. gone_ref r (lift s lanes r)) d.map.rules) a, listed_gone s lanes 0 h d.map.rules a r)
 
 -- ---- the warnings
 
@@ -150,8 +150,8 @@ lift_warned s lanes h (r ∷ t) q e = more_warned (1 + length t) (suc (length t)
 
 all-warned : (lanes : List ℕ) (d : Drawing) (l : Option ℕ) (n h : ℕ) → Warned n d.warnings → h < 2 ^ 64 → every (λ r. ltb r.num h) d.map.rules ≡ true → Warned (n + length d.map.rules) (lift_all lanes d l).warnings
 unfolding lift_all
-all-warned lanes d none n h w q e = more_warned n _ _ (omega arith) w
-all-warned lanes d (some s) n h w q e = both_warned d.warnings _ w (lift_warned s lanes h d.map.rules q e)
+all-warned lanes d None n h w q e = more_warned n _ _ (omega arith) w
+all-warned lanes d (Some s) n h w q e = both_warned d.warnings _ w (lift_warned s lanes h d.map.rules q e)
 
 length-replaced : (r : Rule) (t : List Rule) → length (replaced (λ x. x.num) r t) ≡ length t
 unfolding replaced
@@ -161,54 +161,54 @@ length-replaced r (x ∷ t) = ap suc (length-replaced r t)
 -- ---- before the lift: a rule is as it was, or it is the group's, a light that shows the change
 
 data Before (x : Rule) : Option Rule → Type 0 where
-  as_was : Before x (some x)
-  lit : {y : Rule} → IsLight y.body → same_list (rule.write x) (rule.write y) ≡ false → Before x (some y)
+  as_was : Before x (Some x)
+  lit : {y : Rule} → IsLight y.body → same_list (rule.write x) (rule.write y) ≡ false → Before x (Some y)
 
 module _ (l : Option ℕ) (lanes : List ℕ) (pre : Rule → Option Rule) where
   abbrev after : Rule → Option Rule
   after x = from_some (pre x) (lift_by l lanes)
 
-  eased_shows : (l : Option ℕ) (x : Rule) → rule_within x ≡ true → eased_by l lanes x ≡ differ (some (rule.write x)) (form_in rule.write (lift_by l lanes x))
+  eased_shows : (l : Option ℕ) (x : Rule) → rule_within x ≡ true → eased_by l lanes x ≡ differ (Some (rule.write x)) (form_in rule.write (lift_by l lanes x))
   unfolding form_in
-  eased_shows none x f = sym (differ_self (some (rule.write x)))
-  eased_shows (some s) x f = lift_touched s lanes x f
+  eased_shows None x f = sym (differ_self (Some (rule.write x)))
+  eased_shows (Some s) x f = lift_touched s lanes x f
 
   gone_shows : (l : Option ℕ) (x : Rule) → gone_by l lanes x ≡ not (is_some (lift_by l lanes x))
-  gone_shows none x = refl
-  gone_shows (some s) x = lift_gone s lanes x
+  gone_shows None x = refl
+  gone_shows (Some s) x = lift_gone s lanes x
 
-  touched_by : (x : Rule) → rule_within x ≡ true → Before x (pre x) → (touched_at rule.write pre (some x) || at (eased_by l lanes) (pre x)) ≡ touched_at rule.write after (some x)
+  touched_by : (x : Rule) → rule_within x ≡ true → Before x (pre x) → (touched_at rule.write pre (Some x) || at (eased_by l lanes) (pre x)) ≡ touched_at rule.write after (Some x)
   unfolding form_in
   touched_by x f b = go (pre x) refl b
     where
-      go : (o : Option Rule) → pre x ≡ o → Before x o → (differ (some (rule.write x)) (form_in rule.write o) || at (eased_by l lanes) o) ≡ differ (some (rule.write x)) (form_in rule.write (from_some o (lift_by l lanes)))
-      go none e b' = elim b' [ ]
-      go (some y) e as_was = rw (differ_self (some (rule.write x))) (eased_shows l x f)
-      go (some y) e (lit i s) = rw (light_stays l lanes y i, light_uneased l lanes y i) (or_no (differ (some (rule.write x)) (some (rule.write y))))
+      go : (o : Option Rule) → pre x ≡ o → Before x o → (differ (Some (rule.write x)) (form_in rule.write o) || at (eased_by l lanes) o) ≡ differ (Some (rule.write x)) (form_in rule.write (from_some o (lift_by l lanes)))
+      go None e b' = elim b' [ ]
+      go (Some y) e as_was = rw (differ_self (Some (rule.write x))) (eased_shows l x f)
+      go (Some y) e (lit i s) = rw (light_stays l lanes y i, light_uneased l lanes y i) (or_no (differ (Some (rule.write x)) (Some (rule.write y))))
 
-  gone_by_lem : (x : Rule) → Before x (pre x) → at (gone_by l lanes) (pre x) ≡ gone_at after (some x)
+  gone_by_lem : (x : Rule) → Before x (pre x) → at (gone_by l lanes) (pre x) ≡ gone_at after (Some x)
   gone_by_lem x b = go (pre x) b
     where
       go : (o : Option Rule) → Before x o → at (gone_by l lanes) o ≡ not (is_some (from_some o (lift_by l lanes)))
-      go none b' = elim b' [ ]
-      go (some y) as_was = gone_shows l y
-      go (some y) (lit i s) = gone_shows l y
+      go None b' = elim b' [ ]
+      go (Some y) as_was = gone_shows l y
+      go (Some y) (lit i s) = gone_shows l y
 
 -- ---- the drawing with its line, its signal and its group
 
 -- what is drawn first: a line or none, and the light's line
 abbrev pub begun : Map → Option Polyline → Option ℕ → List Warning → Drawing
-begun m none l ws = record { map = m; line = l; created = []; modified = []; deleted = []; warnings = ws }
-begun m (some p) l ws = record { map = with_line m p; line = l; created = entity 5 (fresh m) ∷ []; modified = []; deleted = []; warnings = ws }
+begun m None l ws = record { map = m; line = l; created = []; modified = []; deleted = []; warnings = ws }
+begun m (Some p) l ws = record { map = with_line m p; line = l; created = entity 5 (fresh m) ∷ []; modified = []; deleted = []; warnings = ws }
 
 abbrev pub new_points : Option Polyline → Polyline
-new_points none = []
-new_points (some p) = p
+new_points None = []
+new_points (Some p) = p
 
 -- the group's rule is there, and is a light
 pub data Group (m : Map) : Option Rule → Type 0 where
-  no_group : Group m none
-  group : {r : Rule} → find (λ x. x.num) r.num m.rules ≡ some r → IsLight r.body → Group m (some r)
+  no_group : Group m None
+  group : {r : Rule} → find (λ x. x.num) r.num m.rules ≡ Some r → IsLight r.body → Group m (Some r)
 
 extended_light : (w : RuleBody) (n : ℕ) (l : Option ℕ) → IsLight w → IsLight (extended w n l)
 unfolding extended
@@ -221,8 +221,8 @@ pub record Same (m n : Map) : Type 0 where
   pub crosswalks : n.crosswalks ≡ m.crosswalks
 
 abbrev line' : Map → Option Polyline → Option LineString
-line' m none = none
-line' m (some p) = some (record { num = fresh m; geometry = p })
+line' m None = None
+line' m (Some p) = Some (record { num = fresh m; geometry = p })
 
 record Begun (m : Map) (o : Option Polyline) (d : Drawing) : Type 0 where
   kept : Same m d.map
@@ -236,7 +236,7 @@ record Begun (m : Map) (o : Option Polyline) (d : Drawing) : Type 0 where
   fresh_line : Fresh (λ (x : LineString). x.num) m.next d.map.next (line' m o)
 
 begun_is : (m : Map) (o : Option Polyline) (l : Option ℕ) (ws : List Warning) → Begun m o (begun m o l ws)
-begun_is m none l ws = record {
+begun_is m None l ws = record {
   kept = record { lanes = refl; boundaries = refl; crosswalks = refl };
   stop_lines = sym (append-nil m.stop_lines);
   signals = refl;
@@ -247,7 +247,7 @@ begun_is m none l ws = record {
   later = omega arith;
   fresh_line = no_fresh (λ (x : LineString). x.num) m.next m.next;
 }
-begun_is m (some p) l ws = record {
+begun_is m (Some p) l ws = record {
   kept = record { lanes = refl; boundaries = refl; crosswalks = refl };
   stop_lines = refl;
   signals = refl;
@@ -278,8 +278,8 @@ unfolding body_ok_lem extended every if_there
 extended_ok w n l (is_light {signals} {line}) e f o = and_i _ _ (every_append number.fits signals (n ∷ []) (search parts) (and_i (number.fits n) _ f refl)) (either line l (search parts) o)
   where
     either : (x y : Option ℕ) → if_there number.fits x ≡ true → if_there number.fits y ≡ true → if_there number.fits (or_else x y) ≡ true
-    either none y p q = q
-    either (some x) y p q = p
+    either None y p q = q
+    either (Some x) y p q = p
 
 joined_ok : (ls ns : List ℕ) → every number.fits ls ≡ true → every number.fits ns ≡ true → every number.fits (joined_lanes ls ns) ≡ true
 unfolding joined_lanes
@@ -352,8 +352,8 @@ unfolding bulbs_of
 in_range_lem a xs = go a.bulbs
   where
     go : (o : Option (List SignalBulb)) → every in_range (bulbs_or o (default_bulbs a.kind xs (height_of a))) ≡ true
-    go none = unfold bulbs_or in default_ok a.kind xs (height_of a)
-    go (some ns) = unfold bulbs_or in all_stored ns
+    go None = unfold bulbs_or in default_ok a.kind xs (height_of a)
+    go (Some ns) = unfold bulbs_or in all_stored ns
 
 sig_ok : (a : NewTrafficSignal) (n : ℕ) (xs : Polyline) → is_finite (height_of a) ≡ true → every point_on_map xs ≡ true → every point_on_map (positions (bulbs_of a xs)) ≡ true → signal_ok (new_signal a n xs) ≡ true
 unfolding signal_ok new_signal if_there
@@ -388,121 +388,121 @@ module _ (m : Map) (ok : is_map m ≡ true) (a : NewTrafficSignal) (known : ever
   three g = grouped (signal_drawn d sig ws) a n g
 
   abbrev rule' : Option Rule → Option Rule
-  rule' none = some new_rule
-  rule' (some r) = none
+  rule' None = Some new_rule
+  rule' (Some r) = None
 
   abbrev pre : Option Rule → Rule → Option Rule
-  pre none x = some x
-  pre (some r) x = put (more_rule r) x
+  pre None x = Some x
+  pre (Some r) x = put (more_rule r) x
 
   abbrev rules' : Option Rule → List Rule
-  rules' none = m.rules ++ (new_rule ∷ [])
-  rules' (some r) = replaced (λ x. x.num) (more_rule r) m.rules
+  rules' None = m.rules ++ (new_rule ∷ [])
+  rules' (Some r) = replaced (λ x. x.num) (more_rule r) m.rules
 
   abbrev next' : Option Rule → ℕ
-  next' none = suc (fresh (with_signal d.map sig))
-  next' (some r) = suc n
+  next' None = suc (fresh (with_signal d.map sig))
+  next' (Some r) = suc n
 
   three_kept : (g : Option Rule) → Same m (three g).map
   unfolding grouped signal_drawn
-  three_kept none = record { lanes = b.kept.lanes; boundaries = b.kept.boundaries; crosswalks = b.kept.crosswalks }
-  three_kept (some r) = record { lanes = b.kept.lanes; boundaries = b.kept.boundaries; crosswalks = b.kept.crosswalks }
+  three_kept None = record { lanes = b.kept.lanes; boundaries = b.kept.boundaries; crosswalks = b.kept.crosswalks }
+  three_kept (Some r) = record { lanes = b.kept.lanes; boundaries = b.kept.boundaries; crosswalks = b.kept.crosswalks }
 
   three_lines : (g : Option Rule) → (three g).map.stop_lines ≡ m.stop_lines ++ one (line' m o)
   unfolding grouped signal_drawn
-  three_lines none = b.stop_lines
-  three_lines (some r) = b.stop_lines
+  three_lines None = b.stop_lines
+  three_lines (Some r) = b.stop_lines
 
   three_signals : (g : Option Rule) → (three g).map.signals ≡ m.signals ++ (sig ∷ [])
   unfolding grouped signal_drawn
-  three_signals none = rw b.signals
-  three_signals (some r) = rw b.signals
+  three_signals None = rw b.signals
+  three_signals (Some r) = rw b.signals
 
   three_rules : (g : Option Rule) → (three g).map.rules ≡ rules' g
   unfolding grouped signal_drawn
-  three_rules none = rw b.rules
-  three_rules (some r) = rw b.rules
+  three_rules None = rw b.rules
+  three_rules (Some r) = rw b.rules
 
   three_next : (g : Option Rule) → (three g).map.next ≡ next' g
   unfolding grouped signal_drawn
-  three_next none = refl
-  three_next (some r) = refl
+  three_next None = refl
+  three_next (Some r) = refl
 
-  three_created : (g : Option Rule) → (three g).created ≡ new_refs (λ (x : LineString). x.num) 5 (line' m o) ++ new_refs (λ (x : Signal). x.num) 6 (some sig) ++ new_refs (λ (x : Rule). x.num) 8 (rule' g)
+  three_created : (g : Option Rule) → (three g).created ≡ new_refs (λ (x : LineString). x.num) 5 (line' m o) ++ new_refs (λ (x : Signal). x.num) 6 (Some sig) ++ new_refs (λ (x : Rule). x.num) 8 (rule' g)
   unfolding grouped signal_drawn
-  three_created none = rw b.created
-  three_created (some r) = rw (b.created, append-nil)
+  three_created None = rw b.created
+  three_created (Some r) = rw (b.created, append-nil)
 
   next_later : (g : Option Rule) → suc n ≤ next' g
-  next_later none = omega arith
-  next_later (some r) = omega arith
+  next_later None = omega arith
+  next_later (Some r) = omega arith
 
   -- the rules, after the lift
   lifted_rules_lem : (g : Option Rule) → Group m g → changed (lift_by l a.lanes) (rules' g) ≡ changed (after l a.lanes (pre g)) m.rules ++ one (rule' g)
   unfolding changed
-  lifted_rules_lem none i = rw (changed_append (lift_by l a.lanes) m.rules (new_rule ∷ []), light_stays l a.lanes new_rule is_light)
-  lifted_rules_lem (some r) i = rw (append-nil, put_all (more_rule r) m.rules) (changed_twice (put (more_rule r)) (lift_by l a.lanes) m.rules)
+  lifted_rules_lem None i = rw (changed_append (lift_by l a.lanes) m.rules (new_rule ∷ []), light_stays l a.lanes new_rule is_light)
+  lifted_rules_lem (Some r) i = rw (append-nil, put_all (more_rule r) m.rules) (changed_twice (put (more_rule r)) (lift_by l a.lanes) m.rules)
 
-  pre_same : (g : Option Rule) (x y : Rule) → pre g x ≡ some y → y.num ≡ x.num
-  pre_same none x y e = let q : x ≡ y = cc in ap (λ (r : Rule). r.num) (sym q)
-  pre_same (some r) x y e = put_same (more_rule r) x y e
+  pre_same : (g : Option Rule) (x y : Rule) → pre g x ≡ Some y → y.num ≡ x.num
+  pre_same None x y e = let q : x ≡ y = cc in ap (λ (r : Rule). r.num) (sym q)
+  pre_same (Some r) x y e = put_same (more_rule r) x y e
 
-  after_same : (g : Option Rule) (x y : Rule) → after l a.lanes (pre g) x ≡ some y → y.num ≡ x.num
+  after_same : (g : Option Rule) (x y : Rule) → after l a.lanes (pre g) x ≡ Some y → y.num ≡ x.num
   after_same g x y e = go (pre g x) refl e
     where
-      go : (p : Option Rule) → pre g x ≡ p → from_some p (lift_by l a.lanes) ≡ some y → y.num ≡ x.num
-      go none q e = let z : ◌≡◌ {A = ℕ} 0 1 = cc in absurd (omega arith)
-      go (some w) q e = lift_same l a.lanes w y e ∙ pre_same g x w q
+      go : (p : Option Rule) → pre g x ≡ p → from_some p (lift_by l a.lanes) ≡ Some y → y.num ≡ x.num
+      go None q e = let z : ◌≡◌ {A = ℕ} 0 1 = cc in absurd (omega arith)
+      go (Some w) q e = lift_same l a.lanes w y e ∙ pre_same g x w q
 
   -- one more signal shows in writing
   more_shows : (r : Rule) → rule_within r ≡ true → IsLight r.body → same_list (rule.write r) (rule.write (more_rule r)) ≡ false
   more_shows r f i = list_differs _ _ (λ e. signals_count r.body n l i (body_within_lem r f) _ _ (rule_split r (more_rule r) refl e))
 
-  before : (g : Option Rule) → Group m g → (x : Rule) → find (λ r. r.num) x.num m.rules ≡ some x → Before x (pre g x)
-  before none i x f = as_was
-  before (some r) (group q i) x f = go (eqb x.num r.num) refl
+  before : (g : Option Rule) → Group m g → (x : Rule) → find (λ r. r.num) x.num m.rules ≡ Some x → Before x (pre g x)
+  before None i x f = as_was
+  before (Some r) (group q i) x f = go (eqb x.num r.num) refl
     where
-      go : (c : Bool) → eqb x.num r.num ≡ c → Before x (some (cond c (more_rule r) x))
+      go : (c : Bool) → eqb x.num r.num ≡ c → Before x (Some (cond c (more_rule r) x))
       go true e =
-          let w : find (λ y. y.num) r.num m.rules ≡ some x = subst (λ (k : ℕ). find (λ y. y.num) k m.rules ≡ some x) (eqb-true x.num r.num e) f in
+          let w : find (λ y. y.num) r.num m.rules ≡ Some x = subst (λ (k : ℕ). find (λ y. y.num) k m.rules ≡ Some x) (eqb-true x.num r.num e) f in
           let z : r ≡ x = cc in
           lit (extended_light r.body n l i) (subst (λ (y : Rule). same_list (rule.write y) (rule.write (more_rule r)) ≡ false) z (more_shows r (found_is (λ (y : Rule). y.num) r.num m.rules rule_within r (rules_within m ok) q).0 i))
       go false e = as_was
 
   -- the rule that is found after the group was seen to
   find_three : (p : Rule → Bool) (g : Option Rule) (k : ℕ) → p new_rule ≡ false → at p (find (λ r. r.num) k (rules' g)) ≡ at p (from_some (find (λ r. r.num) k m.rules) (pre g))
-  find_three p none k f = rw (find-append (λ (r : Rule). r.num) k m.rules new_rule) (go (find (λ r. r.num) k m.rules) (eqb new_rule.num k))
+  find_three p None k f = rw (find-append (λ (r : Rule). r.num) k m.rules new_rule) (go (find (λ r. r.num) k m.rules) (eqb new_rule.num k))
     where
-      go : (o : Option Rule) (c : Bool) → at p (or_else o (cond c (some new_rule) none)) ≡ at p (from_some o (λ x. some x))
-      go none true = f
-      go none false = refl
-      go (some x) c = refl
-  find_three p (some r) k f = rw (put_all (more_rule r) m.rules, find_changed (λ (x : Rule). x.num) (put (more_rule r)) (put_same (more_rule r)) 0 m.next k m.rules (up₈ m ok))
+      go : (o : Option Rule) (c : Bool) → at p (or_else o (cond c (Some new_rule) None)) ≡ at p (from_some o (λ x. Some x))
+      go None true = f
+      go None false = refl
+      go (Some x) c = refl
+  find_three p (Some r) k f = rw (put_all (more_rule r) m.rules, find_changed (λ (x : Rule). x.num) (put (more_rule r)) (put_same (more_rule r)) 0 m.next k m.rules (up₈ m ok))
 
   rising_three : (g : Option Rule) → rising (λ r. r.num) 0 (next' g) (rules' g) ≡ true
-  rising_three none = let u = b.later in rising-append (λ (r : Rule). r.num) 0 m.next (next' none) m.rules new_rule (up₈ m ok) (omega arith) (omega arith) (omega arith)
-  rising_three (some r) = let u = b.later in rw (put_all (more_rule r) m.rules) (rising_wider (λ (r : Rule). r.num) 0 0 m.next (suc n) (changed (put (more_rule r)) m.rules) (omega arith) (omega arith)
+  rising_three None = let u = b.later in rising-append (λ (r : Rule). r.num) 0 m.next (next' None) m.rules new_rule (up₈ m ok) (omega arith) (omega arith) (omega arith)
+  rising_three (Some r) = let u = b.later in rw (put_all (more_rule r) m.rules) (rising_wider (λ (r : Rule). r.num) 0 0 m.next (suc n) (changed (put (more_rule r)) m.rules) (omega arith) (omega arith)
       (rising_changed (λ (r : Rule). r.num) (put (more_rule r)) (put_same (more_rule r)) 0 m.next m.rules (up₈ m ok)))
 
   -- the group's rule is listed as modified, by its number
   three_modified : (g : Option Rule) → Group m g → (c : EntityRef) → listed (three g).modified c ≡ (eqb c.kind 8 && touched_at rule.write (pre g) (find (λ r. r.num) c.num m.rules))
   unfolding grouped signal_drawn listed
-  three_modified none i c = ap (λ (ms : List EntityRef). listed ms c) b.modified ∙ (none_touched rule.write (eqb c.kind 8) (find (λ r. r.num) c.num m.rules))
-  three_modified (some r) (group q i) c = ap (λ (ms : List EntityRef). listed (ms ++ (entity 8 r.num ∷ [])) c) b.modified ∙ one_listed
+  three_modified None i c = ap (λ (ms : List EntityRef). listed ms c) b.modified ∙ (none_touched rule.write (eqb c.kind 8) (find (λ r. r.num) c.num m.rules))
+  three_modified (Some r) (group q i) c = ap (λ (ms : List EntityRef). listed (ms ++ (entity 8 r.num ∷ [])) c) b.modified ∙ one_listed
     where
       go : (u v : Bool) → ((u && v) || false) ≡ (u && (v && true))
       go true true = refl
       go true false = refl
       go false v = refl
 
-      one_listed : listed (entity 8 r.num ∷ []) c ≡ (eqb c.kind 8 && touched_at rule.write (pre (some r)) (find (λ r. r.num) c.num m.rules))
+      one_listed : listed (entity 8 r.num ∷ []) c ≡ (eqb c.kind 8 && touched_at rule.write (pre (Some r)) (find (λ r. r.num) c.num m.rules))
       one_listed = rw (put_touched (more_rule r) r m.rules c.num q, same_as 8 r.num c, more_shows r (found_is (λ (y : Rule). y.num) r.num m.rules rule_within r (rules_within m ok) q).0 i)
           (go (eqb c.kind 8) (eqb r.num c.num))
 
   three_deleted : (g : Option Rule) (c : EntityRef) → listed (three g).deleted c ≡ false
   unfolding grouped signal_drawn listed
-  three_deleted none c = rw b.deleted
-  three_deleted (some r) c = rw b.deleted
+  three_deleted None c = rw b.deleted
+  three_deleted (Some r) c = rw b.deleted
 
   -- each rule of the map, through the group and the lift
   rule_touched : (g : Option Rule) → Group m g → (k : ℕ) → (touched_at rule.write (pre g) (find (λ r. r.num) k m.rules) || at (eased_by l a.lanes) (from_some (find (λ r. r.num) k m.rules) (pre g)))
@@ -510,19 +510,19 @@ module _ (m : Map) (ok : is_map m ≡ true) (a : NewTrafficSignal) (known : ever
   rule_touched g i k = go (find (λ r. r.num) k m.rules) refl
     where
       go : (p : Option Rule) → find (λ r. r.num) k m.rules ≡ p → (touched_at rule.write (pre g) p || at (eased_by l a.lanes) (from_some p (pre g))) ≡ touched_at rule.write (after l a.lanes (pre g)) p
-      go none e = unfold differ form_in in refl
-      go (some x) e =
+      go None e = unfold differ form_in in refl
+      go (Some x) e =
           let v = found_is (λ (y : Rule). y.num) k m.rules rule_within x (rules_within m ok) e in
-          touched_by l a.lanes (pre g) x v.0 (before g i x (subst (λ (j : ℕ). find (λ r. r.num) j m.rules ≡ some x) (sym v.1) e))
+          touched_by l a.lanes (pre g) x v.0 (before g i x (subst (λ (j : ℕ). find (λ r. r.num) j m.rules ≡ Some x) (sym v.1) e))
 
   rule_gone : (g : Option Rule) → Group m g → (k : ℕ) → at (gone_by l a.lanes) (from_some (find (λ r. r.num) k m.rules) (pre g)) ≡ gone_at (after l a.lanes (pre g)) (find (λ r. r.num) k m.rules)
   rule_gone g i k = go (find (λ r. r.num) k m.rules) refl
     where
       go : (p : Option Rule) → find (λ r. r.num) k m.rules ≡ p → at (gone_by l a.lanes) (from_some p (pre g)) ≡ gone_at (after l a.lanes (pre g)) p
-      go none e = refl
-      go (some x) e =
+      go None e = refl
+      go (Some x) e =
           let v = found_is (λ (y : Rule). y.num) k m.rules rule_within x (rules_within m ok) e in
-          gone_by_lem l a.lanes (pre g) x (before g i x (subst (λ (j : ℕ). find (λ r. r.num) j m.rules ≡ some x) (sym v.1) e))
+          gone_by_lem l a.lanes (pre g) x (before g i x (subst (λ (j : ℕ). find (λ r. r.num) j m.rules ≡ Some x) (sym v.1) e))
 
   abbrev four : Option Rule → Drawing
   four g = lift_all a.lanes (three g) l
@@ -556,12 +556,12 @@ module _ (m : Map) (ok : is_map m ≡ true) (a : NewTrafficSignal) (known : ever
 
   three_warned : (g : Option Rule) → Warned 1 d.warnings → Warned 1 ws → Warned 2 (three g).warnings
   unfolding grouped signal_drawn
-  three_warned none v w = both_warned d.warnings ws v w
-  three_warned (some r) v w = both_warned d.warnings ws v w
+  three_warned None v w = both_warned d.warnings ws v w
+  three_warned (Some r) v w = both_warned d.warnings ws v w
 
   few_rules : (g : Option Rule) → length (rules' g) ≤ 129
-  few_rules none = let u = leb-true (length m.rules) max_rules (rules_few m ok) in let v = length-append m.rules (new_rule ∷ []) in omega arith
-  few_rules (some r) = let u = leb-true (length m.rules) max_rules (rules_few m ok) in let v = length-replaced (more_rule r) m.rules in omega arith
+  few_rules None = let u = leb-true (length m.rules) max_rules (rules_few m ok) in let v = length-append m.rules (new_rule ∷ []) in omega arith
+  few_rules (Some r) = let u = leb-true (length m.rules) max_rules (rules_few m ok) in let v = length-replaced (more_rule r) m.rules in omega arith
 
   four_warned : (g : Option Rule) → next' g < 2 ^ 64 → Warned 1 d.warnings → Warned 1 ws → Warned max_warnings (lift_all a.lanes (three g) l).warnings
   four_warned g h v w =
@@ -571,7 +571,7 @@ module _ (m : Map) (ok : is_map m ≡ true) (a : NewTrafficSignal) (known : ever
       (all-warned a.lanes (three g) l 2 (next' g) (three_warned g v w) h (rw (three_rules g) (rising_below (λ (r : Rule). r.num) 0 (next' g) (rules' g) (rising_three g))))
 
   module _ (bw : Warned 1 d.warnings) (ww : Warned 1 ws) (lf : d.map.next < 2 ^ 64 → if_there number.fits l ≡ true) (hf : is_finite (height_of a) ≡ true) where
-    new_ok : next' none < 2 ^ 64 → rule_ok new_rule ≡ true
+    new_ok : next' None < 2 ^ 64 → rule_ok new_rule ≡ true
     unfolding body_ok_lem every
     new_ok h =
         let u = b.later in
@@ -585,14 +585,14 @@ module _ (m : Map) (ok : is_map m ≡ true) (a : NewTrafficSignal) (known : ever
         (extended_ok r.body n l i (body_ok r q) (small_fits n (suc n) (omega arith) h) (lf (omega arith)))
         (joined_ok r.lanes a.lanes (lanes_ok r q) (below_fits m.next (omega arith) a.lanes known)) (controlled_ok r q)
 
-    change_ok : (g : Option Rule) → Group m g → next' g < 2 ^ 64 → (x y : Rule) → rule_ok x ≡ true → after l a.lanes (pre g) x ≡ some y → rule_ok y ≡ true
-    change_ok none i h x y q e = lift_ok l a.lanes x y q e
-    change_ok (some r) (group f i) h x y q e = go (eqb x.num r.num) e
+    change_ok : (g : Option Rule) → Group m g → next' g < 2 ^ 64 → (x y : Rule) → rule_ok x ≡ true → after l a.lanes (pre g) x ≡ Some y → rule_ok y ≡ true
+    change_ok None i h x y q e = lift_ok l a.lanes x y q e
+    change_ok (Some r) (group f i) h x y q e = go (eqb x.num r.num) e
       where
         more : rule_ok (more_rule r) ≡ true
         more = more_ok r h (found_is (λ (z : Rule). z.num) r.num m.rules rule_ok r (rules_ok m ok) f).0 i
 
-        go : (c : Bool) → lift_by l a.lanes (cond c (more_rule r) x) ≡ some y → rule_ok y ≡ true
+        go : (c : Bool) → lift_by l a.lanes (cond c (more_rule r) x) ≡ Some y → rule_ok y ≡ true
         go true e = lift_ok l a.lanes (more_rule r) y more e
         go false e = lift_ok l a.lanes x y q e
 
@@ -612,38 +612,38 @@ module _ (m : Map) (ok : is_map m ≡ true) (a : NewTrafficSignal) (known : ever
     line_fresh g x e = let u = b.fresh_line x e in let v = four_next g in let w = next_later g in (u.0, omega arith)
 
     rule_fresh : (g : Option Rule) → Fresh (λ (x : Rule). x.num) m.next (four g).map.next (rule' g)
-    rule_fresh none = let u = b.later in let v = four_next none in is_fresh (λ (x : Rule). x.num) m.next (four none).map.next new_rule (omega arith) (omega arith)
-    rule_fresh (some r) = no_fresh (λ (x : Rule). x.num) m.next (four (some r)).map.next
+    rule_fresh None = let u = b.later in let v = four_next None in is_fresh (λ (x : Rule). x.num) m.next (four None).map.next new_rule (omega arith) (omega arith)
+    rule_fresh (Some r) = no_fresh (λ (x : Rule). x.num) m.next (four (Some r)).map.next
 
     sig_num : sig.num ≡ n
     unfolding new_signal
     sig_num = refl
 
-    drawn_ok : (o : Option Polyline) → every point_on_map (new_points o) ≡ true → (x : LineString) → line' m o ≡ some x → line_string_ok x ≡ true
+    drawn_ok : (o : Option Polyline) → every point_on_map (new_points o) ≡ true → (x : LineString) → line' m o ≡ Some x → line_string_ok x ≡ true
     unfolding line_string_ok
-    drawn_ok none e = no_ok line_string_ok
-    drawn_ok (some p) e = is_ok line_string_ok (record { num = fresh m; geometry = p }) (line_on_map p e)
+    drawn_ok None e = no_ok line_string_ok
+    drawn_ok (Some p) e = is_ok line_string_ok (record { num = fresh m; geometry = p }) (line_on_map p e)
 
-    new_rule_ok : (g : Option Rule) → (four g).map.next < 2 ^ 64 → (x : Rule) → rule' g ≡ some x → rule_ok x ≡ true
-    new_rule_ok none h = let v = four_next none in is_ok rule_ok new_rule (new_ok (omega arith))
-    new_rule_ok (some r) h = no_ok rule_ok
+    new_rule_ok : (g : Option Rule) → (four g).map.next < 2 ^ 64 → (x : Rule) → rule' g ≡ Some x → rule_ok x ≡ true
+    new_rule_ok None h = let v = four_next None in is_ok rule_ok new_rule (new_ok (omega arith))
+    new_rule_ok (Some r) h = no_ok rule_ok
 
     rises : (x : Option LineString) → Fresh (λ (x : LineString). x.num) m.next d.map.next x → (g : Option Rule)
-        → rising (λ k. k) m.next (four g).map.next (map (λ c. c.num) (new_ones x (some sig) (rule' g))) ≡ true
+        → rising (λ k. k) m.next (four g).map.next (map (λ c. c.num) (new_ones x (Some sig) (rule' g))) ≡ true
     unfolding new_signal
-    rises none f none = let u = b.later in let v = four_next none in rise_two m.next (four none).map.next n new_rule.num (omega arith) (omega arith) (omega arith)
-    rises none f (some r) = let u = b.later in let v = four_next (some r) in rise_one m.next (four (some r)).map.next n (omega arith) (omega arith)
-    rises (some x) f none =
-        let u = f x refl in let p = u.0 in let q = u.1 in let v = four_next none in
-        rise_three m.next (four none).map.next x.num n new_rule.num p (omega arith) (omega arith) (omega arith)
-    rises (some x) f (some r) =
-        let u = f x refl in let p = u.0 in let q = u.1 in let v = four_next (some r) in
-        rise_two m.next (four (some r)).map.next x.num n p (omega arith) (omega arith)
+    rises None f None = let u = b.later in let v = four_next None in rise_two m.next (four None).map.next n new_rule.num (omega arith) (omega arith) (omega arith)
+    rises None f (Some r) = let u = b.later in let v = four_next (Some r) in rise_one m.next (four (Some r)).map.next n (omega arith) (omega arith)
+    rises (Some x) f None =
+        let u = f x refl in let p = u.0 in let q = u.1 in let v = four_next None in
+        rise_three m.next (four None).map.next x.num n new_rule.num p (omega arith) (omega arith) (omega arith)
+    rises (Some x) f (Some r) =
+        let u = f x refl in let p = u.0 in let q = u.1 in let v = four_next (Some r) in
+        rise_two m.next (four (Some r)).map.next x.num n p (omega arith) (omega arith)
 
     light_shape : (es : Option SectionNames) (g : Option Rule) → Group m g → Shape m (draft es g)
     light_shape es g i = record {
       line = line' m o;
-      signal = some sig;
+      signal = Some sig;
       rule = rule' g;
       change = after l a.lanes (pre g);
       lanes_are = ap (λ (x : Map). x.lanes) (lifts_map a.lanes (three g) l) ∙ (three_kept g).lanes;
@@ -658,7 +658,7 @@ module _ (m : Map) (ok : is_map m ≡ true) (a : NewTrafficSignal) (known : ever
       fresh_rule = rule_fresh g;
       later = let u = b.later in let v = four_next g in let w = next_later g in omega arith;
       rise = rises (line' m o) b.fresh_line g;
-      created = λ c. ap (λ (rs : List EntityRef). listed rs c) (lifts_created a.lanes (three g) l ∙ three_created g) ∙ listed_created (line' m o) (some sig) (rule' g) c;
+      created = λ c. ap (λ (rs : List EntityRef). listed rs c) (lifts_created a.lanes (three g) l ∙ three_created g) ∙ listed_created (line' m o) (Some sig) (rule' g) c;
       deleted = four_deleted g i;
       modified = λ c h. four_modified g i;
       line_ok = λ e. drawn_ok o (every_left point_on_map (new_points o) xs (every_left point_on_map (new_points o ++ xs) (positions (bulbs_of a xs)) e));
@@ -672,14 +672,14 @@ module _ (m : Map) (ok : is_map m ≡ true) (a : NewTrafficSignal) (known : ever
 
 group_is : (m : Map) (k : Option ℕ) (g : Option ℕ) → group_line m k ≡ done g → Group m (group_rule m k)
 unfolding group_line group_rule rule_of
-group_is m none g e = no_group
-group_is m (some k) g e =
+group_is m None g e = no_group
+group_is m (Some k) g e =
     let p₁ = went (present (find (λ r. r.num) k m.rules) 2 (8 ∷ k ∷ [])) _ g e in
     let r = p₁.value in
     let p₂ = past (not (no_entries r.controlled)) 7 (1 ∷ []) _ g p₁.rest in
     let f = there (find (λ x. x.num) k m.rules) 2 (8 ∷ k ∷ []) r p₁.first in
     let v = (found_is (λ (x : Rule). x.num) k m.rules (λ x. true) r (every_true m.rules) f).1 in
-    rw f (group (subst (λ (j : ℕ). find (λ x. x.num) j m.rules ≡ some r) (sym v) f) (is_one r.body p₂.rest))
+    rw f (group (subst (λ (j : ℕ). find (λ x. x.num) j m.rules ≡ Some r) (sym v) f) (is_one r.body p₂.rest))
   where
     is_one : (w : RuleBody) → light_line w ≡ done g → IsLight w
     is_one (light signals line) e = is_light
@@ -694,8 +694,8 @@ unfolding height_of
 height_is a e = go a.height e
   where
     go : (h : Option Float) → bad_height h ≡ false → is_finite (or_default h default_height) ≡ true
-    go none e = unfold or_default is_finite of_bits fits in refl
-    go (some h) e = unfold or_default bad_height in let t : (is_finite h && lt f0 h) ≡ true = not-false (is_finite h && lt f0 h) e in search parts
+    go None e = unfold or_default is_finite of_bits fits in refl
+    go (Some h) e = unfold or_default bad_height in let t : (is_finite h && lt f0 h) ≡ true = not-false (is_finite h && lt f0 h) e in search parts
 
 pub record Plans (a : NewTrafficSignal) (m : Map) (p : Planned) : Type 0 where
   pub unit : Unit {0}
@@ -745,8 +745,8 @@ anchored m ok lanes s x e =
 
 housing_warned : (m : Map) (n : ℕ) (xs : Polyline) (o : Option (List Float)) (p : Placed) → housing_for m n xs o ≡ done p → Warned 1 p.warnings
 unfolding housing_for
-housing_warned m n xs (some cs) p e = subst (λ (q : Placed). Warned 1 q.warnings) (done_is e) none_warned
-housing_warned m n xs none p e = let q = went (synthesize_signal_geometry m n xs) _ p e in subst (λ (q : Placed). Warned 1 q.warnings) (done_is q.rest) (bare_warned 3 refl)
+housing_warned m n xs (Some cs) p e = subst (λ (q : Placed). Warned 1 q.warnings) (done_is e) none_warned
+housing_warned m n xs None p e = let q = went (synthesize_signal_geometry m n xs) _ p e in subst (λ (q : Placed). Warned 1 q.warnings) (done_is q.rest) (bare_warned 3 refl)
 
 draw_warned : (m : Map) (lanes : List ℕ) (how : Placement) (cs : List Float) (p : Placed) → get_or lanes 0 0 < 2 ^ 64 → draw_plan m lanes how cs ≡ done (draw p) → Warned 1 p.warnings
 unfolding draw_plan
@@ -761,26 +761,26 @@ draw_warned m lanes how cs p h e =
 plan_warned : (m : Map) (lanes : List ℕ) (g : Option ℕ) (c : StopLineChoice) (cs : List Float) (p : Placed) → get_or lanes 0 0 < 2 ^ 64 → plan_for m lanes g c cs ≡ done (draw p) → Warned 1 p.warnings
 unfolding plan_for
 plan_warned m lanes g (Existing s) cs p h e = let z : ◌≡◌ {A = ℕ} 0 1 = cc in absurd (omega arith)
-plan_warned m lanes none NoLine cs p h e = let z : ◌≡◌ {A = ℕ} 0 1 = cc in absurd (omega arith)
-plan_warned m lanes (some s) NoLine cs p h e = let z : ◌≡◌ {A = ℕ} 0 1 = cc in absurd (omega arith)
+plan_warned m lanes None NoLine cs p h e = let z : ◌≡◌ {A = ℕ} 0 1 = cc in absurd (omega arith)
+plan_warned m lanes (Some s) NoLine cs p h e = let z : ◌≡◌ {A = ℕ} 0 1 = cc in absurd (omega arith)
 plan_warned m lanes g (New how) cs p h e = draw_warned m lanes how cs p h e
 plan_warned m lanes g Automatic cs p h e = go (or_else g (existing_stop_line m (get_or lanes 0 0))) e
   where
     go : (o : Option ℕ) → auto_plan m lanes o ≡ done (draw p) → Warned 1 p.warnings
-    go none e = unfold auto_plan in draw_warned m lanes (AtLaneEnd f0) [] p h e
-    go (some s) e = unfold auto_plan in let z : ◌≡◌ {A = ℕ} 0 1 = cc in absurd (omega arith)
+    go None e = unfold auto_plan in draw_warned m lanes (AtLaneEnd f0) [] p h e
+    go (Some s) e = unfold auto_plan in let z : ◌≡◌ {A = ℕ} 0 1 = cc in absurd (omega arith)
 
 by_plan : (a : NewTrafficSignal) (m : Map) → is_map m ≡ true → (pl : Plan) (housing : Placed) → Plans a m (record { plan = pl; housing = housing }) → Shape m (light_draft a m (record { plan = pl; housing = housing }))
 unfolding light_draft line_drawn plan_points plan_ends
 by_plan a m ok (use_line s) housing p =
-    light_shape m ok a (lanes_known m ok a.lanes p.unit p.lanes) housing.points housing.warnings none (begun m none (some s) []) (begun_is m none (some s) []) none_warned (housing_warned m (get_or a.lanes 0 0) p.anchor a.housing housing p.housing_is)
-    (λ h. unfold if_there in small_fits s m.next (anchored m ok a.lanes s p.anchor p.anchor_is) h) (height_is a p.height) none (group_rule m a.group) (group_is m a.group p.own p.own_is)
+    light_shape m ok a (lanes_known m ok a.lanes p.unit p.lanes) housing.points housing.warnings None (begun m None (Some s) []) (begun_is m None (Some s) []) none_warned (housing_warned m (get_or a.lanes 0 0) p.anchor a.housing housing p.housing_is)
+    (λ h. unfold if_there in small_fits s m.next (anchored m ok a.lanes s p.anchor p.anchor_is) h) (height_is a p.height) None (group_rule m a.group) (group_is m a.group p.own p.own_is)
 by_plan a m ok use_none housing p =
-    light_shape m ok a (lanes_known m ok a.lanes p.unit p.lanes) housing.points housing.warnings none (begun m none none []) (begun_is m none none []) none_warned (housing_warned m (get_or a.lanes 0 0) p.anchor a.housing housing p.housing_is)
-    (λ h. unfold if_there in refl) (height_is a p.height) none (group_rule m a.group) (group_is m a.group p.own p.own_is)
+    light_shape m ok a (lanes_known m ok a.lanes p.unit p.lanes) housing.points housing.warnings None (begun m None None []) (begun_is m None None []) none_warned (housing_warned m (get_or a.lanes 0 0) p.anchor a.housing housing p.housing_is)
+    (λ h. unfold if_there in refl) (height_is a p.height) None (group_rule m a.group) (group_is m a.group p.own p.own_is)
 by_plan a m ok (draw x) housing p =
-    light_shape m ok a (lanes_known m ok a.lanes p.unit p.lanes) housing.points housing.warnings (some x.points) (begun m (some x.points) (some (fresh m)) x.warnings)
-    (begun_is m (some x.points) (some (fresh m)) x.warnings)
+    light_shape m ok a (lanes_known m ok a.lanes p.unit p.lanes) housing.points housing.warnings (Some x.points) (begun m (Some x.points) (Some (fresh m)) x.warnings)
+    (begun_is m (Some x.points) (Some (fresh m)) x.warnings)
     (plan_warned m a.lanes p.own a.choice a.points x (first_fits m ok a.lanes (lanes_known m ok a.lanes p.unit p.lanes)) p.plan_is) (housing_warned m (get_or a.lanes 0 0) p.anchor a.housing housing p.housing_is)
     (λ h. unfold if_there in small_fits (fresh m) (suc (fresh m)) (omega arith) h) (height_is a p.height) x.ends (group_rule m a.group) (group_is m a.group p.own p.own_is)
 

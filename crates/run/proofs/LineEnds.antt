@@ -1,7 +1,7 @@
 -- A draft has the ends that the table of calls says.
 use Prim.Native.Nat.{ℕ}
 use mathlib.Core.Path.{◌≡◌, refl, sym, ap, ◌∙◌, subst}
-use mathlib.Core.Option.{Option, none, some}
+use Rattle.std.specs.Prelude.{Option, None, Some}
 use mathlib.Core.List.{List, [], ◌∷◌}
 use lib.Ieee.{Float}
 use lib.ListN.{get_or}
@@ -37,8 +37,8 @@ same_told {t} {u} x y = rw (x, y)
 
 line_drafts : (a : NewStopLine) (d : Draft) (o : Option RuleBody) → drafts (line_draft a d o) ≡ drafts d
 unfolding line_draft
-line_drafts a d none = refl
-line_drafts a d (some w) = refl
+line_drafts a d None = refl
+line_drafts a d (Some w) = refl
 
 pub line_ends : (a : NewStopLine) (m : Map) (d : Draft) → stop_line_edit a m ≡ done d → EndsAnswered (line a) m (drafts d)
 unfolding stop_line_edit
@@ -58,13 +58,13 @@ line_ends a m d e =
 
 lifts_lines : (lanes : List ℕ) (d : Drawing) (o : Option ℕ) → (lift_all lanes d o).map.stop_lines ≡ d.map.stop_lines
 unfolding lift_all
-lifts_lines lanes d none = refl
-lifts_lines lanes d (some s) = refl
+lifts_lines lanes d None = refl
+lifts_lines lanes d (Some s) = refl
 
 group_lines : (d : Drawing) (a : NewTrafficSignal) (n : ℕ) (o : Option Rule) → (grouped d a n o).map.stop_lines ≡ d.map.stop_lines
 unfolding grouped
-group_lines d a n none = refl
-group_lines d a n (some r) = refl
+group_lines d a n None = refl
+group_lines d a n (Some r) = refl
 
 pub light_lines : (a : NewTrafficSignal) (m : Map) (p : Planned) → (light_draft a m p).map.stop_lines ≡ (line_drawn m p.plan).map.stop_lines
 unfolding light_draft signal_drawn
@@ -87,14 +87,14 @@ draws m lanes how cs pl e =
 
 auto_ends : (m : Map) (lanes : List ℕ) (o : Option ℕ) (pl : Plan) → auto_plan m lanes o ≡ done pl → AutoEnds m lanes o (planned m pl)
 unfolding auto_plan plan_ends line_drawn
-auto_ends m lanes none pl e = draws m lanes (AtLaneEnd f0) [] pl e
-auto_ends m lanes (some s) pl e = subst (λ (x : Plan). NoEnds m (planned m x)) (done_is e) (record { ends = refl; stored = refl })
+auto_ends m lanes None pl e = draws m lanes (AtLaneEnd f0) [] pl e
+auto_ends m lanes (Some s) pl e = subst (λ (x : Plan). NoEnds m (planned m x)) (done_is e) (record { ends = refl; stored = refl })
 
 plan_ends_lem : (m : Map) (lanes : List ℕ) (g : Option ℕ) (c : StopLineChoice) (cs : List Float) (pl : Plan) → plan_for m lanes g c cs ≡ done pl → ChoiceEnds m lanes g c cs (planned m pl)
 unfolding plan_for plan_ends line_drawn
 plan_ends_lem m lanes g (Existing s) cs pl e = subst (λ (x : Plan). NoEnds m (planned m x)) (done_is e) (record { ends = refl; stored = refl })
-plan_ends_lem m lanes none NoLine cs pl e = subst (λ (x : Plan). NoEnds m (planned m x)) (done_is e) (record { ends = refl; stored = refl })
-plan_ends_lem m lanes (some s) NoLine cs pl e = subst (λ (x : Plan). NoEnds m (planned m x)) (done_is e) (record { ends = refl; stored = refl })
+plan_ends_lem m lanes None NoLine cs pl e = subst (λ (x : Plan). NoEnds m (planned m x)) (done_is e) (record { ends = refl; stored = refl })
+plan_ends_lem m lanes (Some s) NoLine cs pl e = subst (λ (x : Plan). NoEnds m (planned m x)) (done_is e) (record { ends = refl; stored = refl })
 plan_ends_lem m lanes g (New how) cs pl e = draws m lanes how cs pl e
 plan_ends_lem m lanes g Automatic cs pl e = auto_ends m lanes (or_else g (existing_stop_line m (get_or lanes 0 0))) pl e
 

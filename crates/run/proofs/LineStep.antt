@@ -1,7 +1,7 @@
 -- The stop line's draft has the shape.
 use mathlib.Core.Path.{◌≡◌, refl, sym, subst}
 use mathlib.Core.Bool.{true}
-use mathlib.Core.Option.{Option, none, some}
+use Rattle.std.specs.Prelude.{Option, None, Some}
 use mathlib.Core.List.{[], ◌∷◌, append-nil}
 use Prim.Native.Nat.{ℕ, suc, ◌<◌, ◌^◌}
 use lib.Dec.{eqb, ltb}
@@ -33,9 +33,9 @@ use Rattle.run.proofs.Answers.{lanes_known, below_fits, no_fresh, is_fresh, no_o
 use Rattle.run.proofs.PlaceWarned.{first_fits, place_warned}
 use Rattle.run.proofs.Shape.{Shape, listed_created}
 
-rule_of_lem : (k : StopRule) (n : ℕ) (w : RuleBody) → n < 2 ^ 64 → rule_at k n ≡ some w → body_ok_lem w ≡ true
+rule_of_lem : (k : StopRule) (n : ℕ) (w : RuleBody) → n < 2 ^ 64 → rule_at k n ≡ Some w → body_ok_lem w ≡ true
 unfolding rule_at body_ok_lem number if_there from only
-rule_of_lem StopSign n w h e = let q : sign 1 none (some n) ≡ w = cc in subst (λ (v : RuleBody). body_ok_lem v ≡ true) q (lt-ltb n (2 ^ 64) h)
+rule_of_lem StopSign n w h e = let q : sign 1 None (Some n) ≡ w = cc in subst (λ (v : RuleBody). body_ok_lem v ≡ true) q (lt-ltb n (2 ^ 64) h)
 rule_of_lem Marking n w h e = let q : marking n ≡ w = cc in subst (λ (v : RuleBody). body_ok_lem v ≡ true) q (lt-ltb n (2 ^ 64) h)
 rule_of_lem NoRule n w h e = let z : ◌≡◌ {A = ℕ} 0 1 = cc in absurd (omega arith)
 
@@ -49,13 +49,13 @@ module _ (a : NewStopLine) (m : Map) (ok : is_map m ≡ true) (known : every (λ
   abbrev new_rule : RuleBody → Rule
   new_rule w = record { num = fresh (with_line m p.points); body = w; lanes = a.lanes; controlled = [] }
 
-  shape : (o : Option RuleBody) → ((w : RuleBody) → o ≡ some w → fresh m < 2 ^ 64 → body_ok_lem w ≡ true) → Shape m (line_draft a drawn o)
+  shape : (o : Option RuleBody) → ((w : RuleBody) → o ≡ Some w → fresh m < 2 ^ 64 → body_ok_lem w ≡ true) → Shape m (line_draft a drawn o)
   unfolding line_draft line_string_ok rule_ok every listed
-  shape none f = record {
-    line = some new_line;
-    signal = none;
-    rule = none;
-    change = some;
+  shape None f = record {
+    line = Some new_line;
+    signal = None;
+    rule = None;
+    change = Some;
     lanes_are = refl;
     boundaries_are = refl;
     stop_lines_are = refl;
@@ -68,7 +68,7 @@ module _ (a : NewStopLine) (m : Map) (ok : is_map m ≡ true) (known : every (λ
     fresh_rule = no_fresh (λ (x : Rule). x.num) m.next (suc (fresh m));
     later = omega arith;
     rise = rise_one m.next (suc (fresh m)) (fresh m) (omega arith) (omega arith);
-    created = listed_created (some new_line) none none;
+    created = listed_created (Some new_line) None None;
     deleted = λ a. none_gone (eqb a.kind 8) (find (λ r. r.num) a.num m.rules);
     modified = λ c h a. none_touched (Rattle.map.specs.MapFile.rule).write (eqb a.kind 8) (find (λ r. r.num) a.num m.rules);
     line_ok = λ e. is_ok line_string_ok new_line (line_on_map p.points e);
@@ -77,11 +77,11 @@ module _ (a : NewStopLine) (m : Map) (ok : is_map m ≡ true) (known : every (λ
     change_ok = λ e. kept_ok rule_ok;
     warned = λ h. more_warned 2 max_warnings _ (omega arith) (both_warned p.warnings _ pw (one_warned 2 5 (fresh m) refl refl (omega arith)));
   }
-  shape (some w) f = record {
-    line = some new_line;
-    signal = none;
-    rule = some (new_rule w);
-    change = some;
+  shape (Some w) f = record {
+    line = Some new_line;
+    signal = None;
+    rule = Some (new_rule w);
+    change = Some;
     lanes_are = refl;
     boundaries_are = refl;
     stop_lines_are = refl;
@@ -94,7 +94,7 @@ module _ (a : NewStopLine) (m : Map) (ok : is_map m ≡ true) (known : every (λ
     fresh_rule = is_fresh (λ (x : Rule). x.num) m.next (suc (fresh (with_line m p.points))) (new_rule w) (omega arith) (omega arith);
     later = omega arith;
     rise = rise_two m.next (suc (fresh (with_line m p.points))) (fresh m) (fresh (with_line m p.points)) (omega arith) (omega arith) (omega arith);
-    created = listed_created (some new_line) none (some (new_rule w));
+    created = listed_created (Some new_line) None (Some (new_rule w));
     deleted = λ a. none_gone (eqb a.kind 8) (find (λ r. r.num) a.num m.rules);
     modified = λ c h a. none_touched (Rattle.map.specs.MapFile.rule).write (eqb a.kind 8) (find (λ r. r.num) a.num m.rules);
     line_ok = λ e. is_ok line_string_ok new_line (line_on_map p.points e);

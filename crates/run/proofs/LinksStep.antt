@@ -1,7 +1,7 @@
 -- The draft of the links has the shape.
 use mathlib.Core.Path.{◌≡◌, refl, sym, ap, subst}
 use mathlib.Core.Bool.{Bool, true, false, not, ◌&&◌, ◌||◌, cond}
-use mathlib.Core.Option.{Option, none, some}
+use Rattle.std.specs.Prelude.{Option, None, Some}
 use mathlib.Core.List.{List, [], ◌∷◌, append-nil}
 use Prim.Native.Nat.{ℕ}
 use lib.Dec.{eqb, ltb}
@@ -75,10 +75,10 @@ relinked_ok ls v w f o of_marking = o
 
 to_list_lem : (a b : Option ℕ) → to_list a ≡ to_list b → a ≡ b
 unfolding to_list
-to_list_lem none none e = refl
-to_list_lem none (some b) e = let z : ◌≡◌ {A = ℕ} 0 1 = cc in absurd (omega arith)
-to_list_lem (some a) none e = let z : ◌≡◌ {A = ℕ} 0 1 = cc in absurd (omega arith)
-to_list_lem (some a) (some b) e = let q : a ≡ b = cc in ap {B = Option ℕ} some q
+to_list_lem None None e = refl
+to_list_lem None (Some b) e = let z : ◌≡◌ {A = ℕ} 0 1 = cc in absurd (omega arith)
+to_list_lem (Some a) None e = let z : ◌≡◌ {A = ℕ} 0 1 = cc in absurd (omega arith)
+to_list_lem (Some a) (Some b) e = let q : a ≡ b = cc in ap {B = Option ℕ} Some q
 
 relinked_same : (ls : List ℕ) (v w : RuleBody) → Relinked ls v w → stop_lines_of v ≡ stop_lines_of w → v ≡ w
 unfolding stop_lines_of
@@ -114,10 +114,10 @@ unfolding link_changes
 links_warned true n = none_warned
 links_warned false n = none_warned
 
-module _ (m : Map) (ok : is_map m ≡ true) (r s : Rule) (ls : List ℕ) (found : find (λ x. x.num) s.num m.rules ≡ some r) (n : r.num ≡ s.num)
+module _ (m : Map) (ok : is_map m ≡ true) (r s : Rule) (ls : List ℕ) (found : find (λ x. x.num) s.num m.rules ≡ Some r) (n : r.num ≡ s.num)
     (l : Relinked ls r.body s.body) (so : rule_ok s ≡ true) where
   abbrev draft : Draft
-  draft = record { map = with_rules m (replaced (λ x. x.num) s m.rules); id = r.num; stored = []; ends = none; changes = link_changes (same_links r s) r.num }
+  draft = record { map = with_rules m (replaced (λ x. x.num) s m.rules); id = r.num; stored = []; ends = None; changes = link_changes (same_links r s) r.num }
 
   no_created : (b : Bool) (k : ℕ) (a : EntityRef) → listed (link_changes b k).created a ≡ false
   unfolding link_changes listed
@@ -159,19 +159,19 @@ module _ (m : Map) (ok : is_map m ≡ true) (r s : Rule) (ls : List ℕ) (found 
   now_fits : within_ceilings draft.map ≡ true → rule.fits s ≡ true
   now_fits c = rule_fits s (rw (← n) num_fits) so (within c)
 
-  put_ok : (x y : Rule) → rule_ok x ≡ true → put s x ≡ some y → rule_ok y ≡ true
+  put_ok : (x y : Rule) → rule_ok x ≡ true → put s x ≡ Some y → rule_ok y ≡ true
   put_ok x y h e = go (eqb x.num s.num) e
     where
-      go : (b : Bool) → some (cond b s x) ≡ some y → rule_ok y ≡ true
+      go : (b : Bool) → Some (cond b s x) ≡ Some y → rule_ok y ≡ true
       go true e = let q : s ≡ y = cc in subst (λ (z : Rule). rule_ok z ≡ true) q so
       go false e = let q : x ≡ y = cc in subst (λ (z : Rule). rule_ok z ≡ true) q h
 
   shape : Shape m draft
   unfolding listed
   shape = record {
-    line = none;
-    signal = none;
-    rule = none;
+    line = None;
+    signal = None;
+    rule = None;
     change = put s;
     lanes_are = refl;
     boundaries_are = refl;
@@ -185,7 +185,7 @@ module _ (m : Map) (ok : is_map m ≡ true) (r s : Rule) (ls : List ℕ) (found 
     fresh_rule = no_fresh (λ (x : Rule). x.num) m.next m.next;
     later = omega arith;
     rise = unfold rising in refl;
-    created = λ a. rw (no_created (same_links r s) r.num a) (listed_created none none none a);
+    created = λ a. rw (no_created (same_links r s) r.num a) (listed_created None None None a);
     deleted = λ a. rw (no_deleted (same_links r s) r.num a, put_gone s) (sym (and_no (eqb a.kind 8)));
     modified = λ c h a. rw (one_modified (same_links r s) r.num a, put_touched s r m.rules a.num found, links_show r s ls n l rule_fitted (now_fits c), n);
     line_ok = λ e. no_ok line_string_ok;
@@ -216,4 +216,4 @@ links_shape a m d ok e =
     let k₅ = below_fits m.next h (sorted a.stop_lines) (known m ok (λ (x : LineString). x.num) m.stop_lines (up₅ m ok) (sorted a.stop_lines) (unfound _ 5 p₇.first)) in
     let s = rule_with r p₈.value (sorted a.lanes) (sorted a.crosswalks) in
     subst (Shape m) (done_is p₈.rest)
-    (shape m ok r s (sorted a.stop_lines) (subst (λ (k : ℕ). find (λ x. x.num) k m.rules ≡ some r) (sym v.1) f) refl l (rule_made r p₈.value (sorted a.lanes) (sorted a.crosswalks) (relinked_ok (sorted a.stop_lines) r.body p₈.value k₅ (body_ok r v.0) l) k₁ k₇))
+    (shape m ok r s (sorted a.stop_lines) (subst (λ (k : ℕ). find (λ x. x.num) k m.rules ≡ Some r) (sym v.1) f) refl l (rule_made r p₈.value (sorted a.lanes) (sorted a.crosswalks) (relinked_ok (sorted a.stop_lines) r.body p₈.value k₅ (body_ok r v.0) l) k₁ k₇))

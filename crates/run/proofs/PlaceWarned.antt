@@ -1,7 +1,7 @@
 -- The warnings of a placement.
 use mathlib.Core.Path.{◌≡◌, refl, subst}
 use mathlib.Core.Bool.{Bool, true, false, not, ◌||◌, cond}
-use mathlib.Core.Option.{some}
+use Rattle.std.specs.Prelude.{Some}
 use mathlib.Core.List.{List, [], ◌∷◌}
 use Prim.Native.Nat.{ℕ, ◌^◌, ◌<◌}
 use lib.Dec.{ltb}
@@ -36,7 +36,7 @@ clamp_warned : (n : ℕ) (x y : Float) → n < 2 ^ 64 → Warned 1 (clamp_warnin
 unfolding clamp_warning
 clamp_warned n x y h = go (lt epsilon (absolute (y ⊖ x)))
   where
-    go : (b : Bool) → Warned 1 (cond b (warning 1 (some (entity 1 n)) ∷ []) [])
+    go : (b : Bool) → Warned 1 (cond b (warning 1 (Some (entity 1 n)) ∷ []) [])
     go true = one_warned 1 1 n refl refl h
     go false = none_warned
 

@@ -1,7 +1,7 @@
 -- No edit refuses with 12 or above: those come from the state that it is handed.
 use mathlib.Core.Path.{◌≡◌, refl}
 use mathlib.Core.Bool.{Bool, true, false, not, ◌&&◌, ◌||◌, cond}
-use mathlib.Core.Option.{Option, none, some}
+use Rattle.std.specs.Prelude.{Option, None, Some}
 use mathlib.Core.List.{List, [], ◌∷◌}
 use Prim.Native.Nat.{ℕ, ◌^◌, ◌%◌}
 use lib.Dec.{eqb, ltb, leb}
@@ -53,12 +53,12 @@ low_when true n ds h = h
 low_when false n ds h = refl
 
 low_present : {A : Type 0} (o : Option A) (n : ℕ) (ds : List ℕ) → ltb n 12 ≡ true → low (present o n ds) ≡ true
-low_present none n ds h = h
-low_present (some a) n ds h = refl
+low_present None n ds h = h
+low_present (Some a) n ds h = refl
 
 low_pass : {B : Type 0} (o : Option ℕ) (k : ℕ) (y : Answer B) → low y ≡ true → low (refuse_found o k >> y) ≡ true
-low_pass none k y h = h
-low_pass (some n) k y h = refl
+low_pass None k y h = h
+low_pass (Some n) k y h = refl
 
 low_cond : {A : Type 0} (b : Bool) (x y : Answer A) → low x ≡ true → low y ≡ true → low (cond b x y) ≡ true
 low_cond true x y h k = h
@@ -91,9 +91,9 @@ low_all_lanes m p v (n ∷ ns) es = low_bind (with_lane m p v n es) _ (low_lane 
 
 low_section : (l r : Option End) → low (section l r) ≡ true
 unfolding section
-low_section none r = refl
-low_section (some l) none = refl
-low_section (some l) (some r) = low_cond (lt milli (l.lateral ⊖ r.lateral)) _ _ refl refl
+low_section None r = refl
+low_section (Some l) None = refl
+low_section (Some l) (Some r) = low_cond (lt milli (l.lateral ⊖ r.lateral)) _ _ refl refl
 
 low_cross : (m : Map) (n : ℕ) (x : Float) (ls : List ℕ) → low (cross_section m n x ls) ≡ true
 unfolding cross_section
@@ -101,7 +101,7 @@ low_cross m n x ls =
     low_bind (present (lane_centerline m n) 6 (1 ∷ [])) _ (low_present (lane_centerline m n) 6 (1 ∷ []) refl) (λ c.
     low_bind (present (point_at c x) 6 (2 ∷ [])) _ (low_present (point_at c x) 6 (2 ∷ []) refl) (λ p.
     low_bind (present (direction_at c x) 6 (3 ∷ [])) _ (low_present (direction_at c x) 6 (3 ∷ []) refl) (λ d.
-    low_bind (with_lanes m p (perp d) ls (record { left = none; right = none })) _ (low_all_lanes m p (perp d) ls (record { left = none; right = none })) (λ es. low_section es.left es.right))))
+    low_bind (with_lanes m p (perp d) ls (record { left = None; right = None })) _ (low_all_lanes m p (perp d) ls (record { left = None; right = None })) (λ es. low_section es.left es.right))))
 
 low_place_at : (m : Map) (ls : List ℕ) (n : ℕ) (x y : Float) → low (place_at m ls n x y) ≡ true
 unfolding place_at
@@ -134,14 +134,14 @@ low_light_line (other k) = refl
 
 low_group : (m : Map) (g : Option ℕ) → low (group_line m g) ≡ true
 unfolding group_line
-low_group m none = refl
-low_group m (some g) = low_bind (present (rule_of m g) 2 (8 ∷ g ∷ [])) _ (low_present (rule_of m g) 2 (8 ∷ g ∷ []) refl) (λ r. low_past (not (no_entries r.controlled)) 7 (1 ∷ []) _ refl (low_light_line r.body))
+low_group m None = refl
+low_group m (Some g) = low_bind (present (rule_of m g) 2 (8 ∷ g ∷ [])) _ (low_present (rule_of m g) 2 (8 ∷ g ∷ []) refl) (λ r. low_past (not (no_entries r.controlled)) 7 (1 ∷ []) _ refl (low_light_line r.body))
 
 low_choice : (m : Map) (g : Option ℕ) (c : StopLineChoice) → low (check_choice m g c) ≡ true
 unfolding check_choice
 low_choice m g Automatic = refl
-low_choice m none (New how) = refl
-low_choice m (some s) (New how) = refl
+low_choice m None (New how) = refl
+low_choice m (Some s) (New how) = refl
 low_choice m g NoLine = refl
 low_choice m g (Existing s) = low_then (present (line_of m s) 2 (5 ∷ s ∷ [])) _ (low_present (line_of m s) 2 (5 ∷ s ∷ []) refl) (low_when (differs g s) 7 (3 ∷ []) refl)
 
@@ -151,8 +151,8 @@ low_draw m ls how cs = low_bind (place_stop_line m ls how cs) _ (low_place m ls 
 
 low_auto : (m : Map) (ls : List ℕ) (o : Option ℕ) → low (auto_plan m ls o) ≡ true
 unfolding auto_plan
-low_auto m ls none = low_draw m ls (AtLaneEnd f0) []
-low_auto m ls (some s) = refl
+low_auto m ls None = low_draw m ls (AtLaneEnd f0) []
+low_auto m ls (Some s) = refl
 
 low_plan : (m : Map) (ls : List ℕ) (g : Option ℕ) (c : StopLineChoice) (cs : List Float) → low (plan_for m ls g c cs) ≡ true
 unfolding plan_for
@@ -176,13 +176,13 @@ low_synthesized m n xs =
 
 low_housing : (m : Map) (n : ℕ) (xs : Polyline) (o : Option (List Float)) → low (housing_for m n xs o) ≡ true
 unfolding housing_for
-low_housing m n xs (some cs) = refl
-low_housing m n xs none = low_bind (synthesize_signal_geometry m n xs) _ (low_synthesized m n xs) (λ ys. refl)
+low_housing m n xs (Some cs) = refl
+low_housing m n xs None = low_bind (synthesize_signal_geometry m n xs) _ (low_synthesized m n xs) (λ ys. refl)
 
 low_points : (o : Option (List Float)) → low (check_housing o) ≡ true
 unfolding check_housing
-low_points none = refl
-low_points (some xs) = low_given xs
+low_points None = refl
+low_points (Some xs) = low_given xs
 
 pub low_light : (a : NewTrafficSignal) (m : Map) → low (light_edit a m) ≡ true
 unfolding light_edit light_plan

@@ -1,7 +1,7 @@
 -- Rules that an edit changes: what is said of them, and that a change shows in writing.
 use mathlib.Core.Path.{◌≡◌, refl, sym, ap, subst, ◌∙◌}
 use mathlib.Core.Bool.{Bool, true, false, not, ◌&&◌, cond}
-use mathlib.Core.Option.{Option, none, some}
+use Rattle.std.specs.Prelude.{Option, None, Some}
 use mathlib.Core.List.{List, [], ◌∷◌, ◌++◌, append_cancel_left}
 use Prim.Native.Nat.{ℕ, ◌<◌, ◌^◌}
 use lib.Dec.{eqb}
@@ -26,23 +26,23 @@ use Rattle.run.proofs.Told.{gone_at, touched_at, differ_self}
 
 -- one rule in place of the one with its number
 abbrev pub put : Rule → Rule → Option Rule
-put s x = some (cond (eqb x.num s.num) s x)
+put s x = Some (cond (eqb x.num s.num) s x)
 
 pub put_all : (s : Rule) (t : List Rule) → replaced (λ x. x.num) s t ≡ changed (put s) t
 unfolding replaced changed
 put_all s [] = refl
 put_all s (x ∷ t) = ap {B = List Rule} (λ r. cond (eqb x.num s.num) s x ∷ r) (put_all s t)
 
-pub put_same : (s x y : Rule) → put s x ≡ some y → y.num ≡ x.num
+pub put_same : (s x y : Rule) → put s x ≡ Some y → y.num ≡ x.num
 put_same s x y e = go (eqb x.num s.num) refl e
   where
-    go : (b : Bool) → eqb x.num s.num ≡ b → some (cond b s x) ≡ some y → y.num ≡ x.num
+    go : (b : Bool) → eqb x.num s.num ≡ b → Some (cond b s x) ≡ Some y → y.num ≡ x.num
     go true q e = let r : s ≡ y = cc in ap (λ (z : Rule). z.num) (sym r) ∙ sym (eqb-true x.num s.num q)
     go false q e = let r : x ≡ y = cc in ap (λ (z : Rule). z.num) (sym r)
 
 pub put_gone : (s : Rule) (o : Option Rule) → gone_at (put s) o ≡ false
-put_gone s none = refl
-put_gone s (some x) = refl
+put_gone s None = refl
+put_gone s (Some x) = refl
 
 pub every_true : (t : List Rule) → every (λ (x : Rule). true) t ≡ true
 unfolding every
@@ -50,18 +50,18 @@ every_true [] = refl
 every_true (x ∷ t) = every_true t
 
 -- only the rule r in its place is touched
-pub put_touched : (s r : Rule) (t : List Rule) (n : ℕ) → find (λ x. x.num) s.num t ≡ some r
+pub put_touched : (s r : Rule) (t : List Rule) (n : ℕ) → find (λ x. x.num) s.num t ≡ Some r
     → touched_at rule.write (put s) (find (λ x. x.num) n t) ≡ (eqb s.num n && not (same_list (rule.write r) (rule.write s)))
 unfolding differ form_in
 put_touched s r t n e = go (eqb s.num n) refl
   where
     at : (o : Option Rule) → find (λ x. x.num) n t ≡ o → eqb s.num n ≡ false → touched_at rule.write (put s) o ≡ false
-    at none q f = refl
-    at (some y) q f = rw (ne_eqb y.num s.num (λ h. let v = (found_is (λ (x : Rule). x.num) n t (λ x. true) y (every_true t) q).1 in clash {b = eqb s.num n} (eq-eqb s.num n (sym h ∙ v)) f)) (differ_self (some (rule.write y)))
+    at None q f = refl
+    at (Some y) q f = rw (ne_eqb y.num s.num (λ h. let v = (found_is (λ (x : Rule). x.num) n t (λ x. true) y (every_true t) q).1 in clash {b = eqb s.num n} (eq-eqb s.num n (sym h ∙ v)) f)) (differ_self (Some (rule.write y)))
 
     go : (b : Bool) → eqb s.num n ≡ b → touched_at rule.write (put s) (find (λ x. x.num) n t) ≡ (b && not (same_list (rule.write r) (rule.write s)))
     go true q =
-        let f : find (λ x. x.num) n t ≡ some r = subst (λ (k : ℕ). find (λ x. x.num) k t ≡ some r) (eqb-true s.num n q) e in
+        let f : find (λ x. x.num) n t ≡ Some r = subst (λ (k : ℕ). find (λ x. x.num) k t ≡ Some r) (eqb-true s.num n q) e in
         let v = (found_is (λ (x : Rule). x.num) s.num t (λ x. true) r (every_true t) e).1 in
         rw (f, eq-eqb r.num s.num v)
     go false q = at (find (λ x. x.num) n t) refl q

@@ -1,7 +1,7 @@
 -- The shape that every edit gives a map: at most one new line, signal and rule each, and rules changed or gone. From it, all that the fold needs.
 use mathlib.Core.Path.{◌≡◌, refl, sym}
 use mathlib.Core.Bool.{Bool, true, false, not, ◌&&◌, ◌||◌}
-use mathlib.Core.Option.{Option, none, some}
+use Rattle.std.specs.Prelude.{Option, None, Some}
 use mathlib.Core.List.{List, [], ◌∷◌, ◌++◌, append-nil, map}
 use Prim.Native.Nat.{ℕ, ◌^◌, ◌<◌, ◌≤◌}
 use lib.Dec.{eqb}
@@ -36,13 +36,13 @@ abbrev pub new_in : {A : Type 0} → (A → ℕ) → ℕ → Option A → Entity
 new_in num k o a = eqb a.kind k && new_num num o a.num
 
 abbrev pub new_refs : {A : Type 0} → (A → ℕ) → ℕ → Option A → List EntityRef
-new_refs num k none = []
-new_refs num k (some x) = entity k (num x) ∷ []
+new_refs num k None = []
+new_refs num k (Some x) = entity k (num x) ∷ []
 
 pub listed_new : {A : Type 0} (num : A → ℕ) (k : ℕ) (o : Option A) (a : EntityRef) → listed (new_refs num k o) a ≡ new_in num k o a
 unfolding listed
-listed_new num k none a = sym (and_no (eqb a.kind k))
-listed_new num k (some x) a = rw (or_no (same_ref (entity k (num x)) a)) (same_as k (num x) a)
+listed_new num k None a = sym (and_no (eqb a.kind k))
+listed_new num k (Some x) a = rw (or_no (same_ref (entity k (num x)) a)) (same_as k (num x) a)
 
 -- the new references, in the order of their kinds
 abbrev pub new_ones : Option LineString → Option Signal → Option Rule → List EntityRef
@@ -61,18 +61,18 @@ listed_created l s r a = rw (
 
 ones_rise : (l : Option LineString) (s : Option Signal) (r : Option Rule) → rising_refs (new_ones l s r) ≡ true
 unfolding rising_refs rise_after compare_refs is_before
-ones_rise none none none = refl
-ones_rise none none (some z) = refl
-ones_rise none (some y) none = refl
-ones_rise none (some y) (some z) = refl
-ones_rise (some x) none none = refl
-ones_rise (some x) none (some z) = refl
-ones_rise (some x) (some y) none = refl
-ones_rise (some x) (some y) (some z) = refl
+ones_rise None None None = refl
+ones_rise None None (Some z) = refl
+ones_rise None (Some y) None = refl
+ones_rise None (Some y) (Some z) = refl
+ones_rise (Some x) None None = refl
+ones_rise (Some x) None (Some z) = refl
+ones_rise (Some x) (Some y) None = refl
+ones_rise (Some x) (Some y) (Some z) = refl
 
 -- a new record's number is fresh
 abbrev pub Fresh : {A : Type 0} → (A → ℕ) → ℕ → ℕ → Option A → Type 0
-Fresh num low high o = (x : _) → o ≡ some x → (low ≤ num x) × (num x < high)
+Fresh num low high o = (x : _) → o ≡ Some x → (low ≤ num x) × (num x < high)
 
 pub record Shape (m : Map) (d : Draft) : Type 0 where
   pub line : Option LineString
@@ -85,7 +85,7 @@ pub record Shape (m : Map) (d : Draft) : Type 0 where
   pub signals_are : d.map.signals ≡ m.signals ++ one signal
   pub crosswalks_are : d.map.crosswalks ≡ m.crosswalks
   pub rules_are : d.map.rules ≡ changed change m.rules ++ one rule
-  pub same : (x y : Rule) → change x ≡ some y → y.num ≡ x.num
+  pub same : (x y : Rule) → change x ≡ Some y → y.num ≡ x.num
   pub fresh_line : Fresh (λ (x : LineString). x.num) m.next d.map.next line
   pub fresh_signal : Fresh (λ (x : Signal). x.num) m.next d.map.next signal
   pub fresh_rule : Fresh (λ (x : Rule). x.num) m.next d.map.next rule
@@ -94,10 +94,10 @@ pub record Shape (m : Map) (d : Draft) : Type 0 where
   pub created : (a : EntityRef) → listed d.changes.created a ≡ (new_in (λ (x : LineString). x.num) 5 line a || new_in (λ (x : Signal). x.num) 6 signal a || new_in (λ (x : Rule). x.num) 8 rule a)
   pub deleted : (a : EntityRef) → listed d.changes.deleted a ≡ (eqb a.kind 8 && gone_at change (find (λ r. r.num) a.num m.rules))
   pub modified : within_ceilings d.map ≡ true → d.map.next < 2 ^ 64 → (a : EntityRef) → listed d.changes.modified a ≡ (eqb a.kind 8 && touched_at (Rattle.map.specs.MapFile.rule).write change (find (λ r. r.num) a.num m.rules))
-  pub line_ok : every point_on_map d.stored ≡ true → (x : LineString) → line ≡ some x → line_string_ok x ≡ true
-  pub signal_ok_is : every point_on_map d.stored ≡ true → (x : Signal) → signal ≡ some x → signal_ok x ≡ true
-  pub rule_ok_is : d.map.next < 2 ^ 64 → (x : Rule) → rule ≡ some x → rule_ok x ≡ true
-  pub change_ok : d.map.next < 2 ^ 64 → (x y : Rule) → rule_ok x ≡ true → change x ≡ some y → rule_ok y ≡ true
+  pub line_ok : every point_on_map d.stored ≡ true → (x : LineString) → line ≡ Some x → line_string_ok x ≡ true
+  pub signal_ok_is : every point_on_map d.stored ≡ true → (x : Signal) → signal ≡ Some x → signal_ok x ≡ true
+  pub rule_ok_is : d.map.next < 2 ^ 64 → (x : Rule) → rule ≡ Some x → rule_ok x ≡ true
+  pub change_ok : d.map.next < 2 ^ 64 → (x y : Rule) → rule_ok x ≡ true → change x ≡ Some y → rule_ok y ≡ true
   pub warned : d.map.next < 2 ^ 64 → Warned max_warnings d.changes.warnings
 
 -- ---- the law from the shape
@@ -112,11 +112,11 @@ unchanged : (f : Option Bytes) → Says false false false f f
 unchanged f = record { created = sym (no f); deleted = sym (no f); modified = sym (differ_self f) }
   where
     no : (f : Option Bytes) → (is_some f && not (is_some f)) ≡ false
-    no none = refl
-    no (some x) = refl
+    no None = refl
+    no (Some x) = refl
 
 module _ {A : Type 0} (num : A → ℕ) (w : A → Bytes) (h : ℕ) (t : List A) (r : rising num 0 h t ≡ true) where
-  grown : (o : Option A) → ((x : A) → o ≡ some x → h ≤ num x) → (n : ℕ) → Says (new_num num o n) false false (form_in w (find num n t)) (form_in w (find num n (t ++ one o)))
+  grown : (o : Option A) → ((x : A) → o ≡ Some x → h ≤ num x) → (n : ℕ) → Says (new_num num o n) false false (form_in w (find num n t)) (form_in w (find num n (t ++ one o)))
   grown o f n =
       let k = told_kept num w h t r o f n in
       record {
@@ -145,7 +145,7 @@ module _ (m : Map) (ok : is_map m ≡ true) (d : Draft) (s : Shape m d) where
   says k n rules =
       let t = told (λ (x : Rule). x.num) rule.write m.next m.rules (up₈ m ok) s.change s.same s.rule (λ x e. (s.fresh_rule x e).0) n in
       rw s.rules_are (record { created = t.created; deleted = t.deleted; modified = t.modified })
-  says k n (others e₁ e₂ e₅ e₆ e₇ e₈) = rw (e₁, e₂, e₅, e₆, e₇, e₈) (unchanged none)
+  says k n (others e₁ e₂ e₅ e₆ e₇ e₈) = rw (e₁, e₂, e₅, e₆, e₇, e₈) (unchanged None)
 
   wide : {A : Type 0} (num : A → ℕ) (t : List A) → rising num 0 m.next t ≡ true → rising num 0 d.map.next t ≡ true
   wide num t r = let l = s.later in rising_wider num 0 0 m.next d.map.next t (omega arith) (omega arith) r
@@ -176,12 +176,12 @@ module _ (m : Map) (ok : is_map m ≡ true) (d : Draft) (s : Shape m d) where
       })
     where
       up : {A : Type 0} (num : A → ℕ) (t : List A) → rising num 0 m.next t ≡ true → (o : Option A) → Fresh num m.next d.map.next o → rising num 0 d.map.next (t ++ one o) ≡ true
-      up num t r none f = rw append-nil (wide num t r)
-      up num t r (some x) f = rising-append num 0 m.next d.map.next t x r (omega arith) (f x refl).0 (f x refl).1
+      up num t r None f = rw append-nil (wide num t r)
+      up num t r (Some x) f = rising-append num 0 m.next d.map.next t x r (omega arith) (f x refl).0 (f x refl).1
 
-      each : {A : Type 0} (p : A → Bool) (o : Option A) → ((x : A) → o ≡ some x → p x ≡ true) → every p (one o) ≡ true
-      each p none f = unfold every in refl
-      each p (some x) f = unfold every in and_i _ _ (f x refl) refl
+      each : {A : Type 0} (p : A → Bool) (o : Option A) → ((x : A) → o ≡ Some x → p x ≡ true) → every p (one o) ≡ true
+      each p None f = unfold every in refl
+      each p (Some x) f = unfold every in and_i _ _ (f x refl) refl
 
   born : (a : EntityRef) → listed d.changes.created a ≡ true → m.next ≤ a.num
   born a t = go (eqb a.kind 5 && new_num (λ (x : LineString). x.num) s.line a.num) (eqb a.kind 6 && new_num (λ (x : Signal). x.num) s.signal a.num) (eqb a.kind 8 && new_num (λ (x : Rule). x.num) s.rule a.num)
@@ -194,8 +194,8 @@ module _ (m : Map) (ok : is_map m ≡ true) (d : Draft) (s : Shape m d) where
           second b c e = search parts
 
           at : (o : Option _) → Fresh num m.next d.map.next o → new_num num o a.num ≡ true → m.next ≤ a.num
-          at none f e = clash e refl
-          at (some x) f e = let u = (f x refl).0 in let v = eqb-true (num x) a.num e in omega arith
+          at None f e = clash e refl
+          at (Some x) f e = let u = (f x refl).0 in let v = eqb-true (num x) a.num e in omega arith
 
       go : (b c e : Bool) → (eqb a.kind 5 && new_num (λ (x : LineString). x.num) s.line a.num) ≡ b → (eqb a.kind 6 && new_num (λ (x : Signal). x.num) s.signal a.num) ≡ c
           → (eqb a.kind 8 && new_num (λ (x : Rule). x.num) s.rule a.num) ≡ e → (b || c || e) ≡ true → m.next ≤ a.num

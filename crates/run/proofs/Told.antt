@@ -1,7 +1,7 @@
 -- What becomes of a table of which f changes the records, and to which o is added.
 use mathlib.Core.Path.{◌≡◌, refl, sym, ap, subst}
 use mathlib.Core.Bool.{Bool, true, false, not, ◌&&◌}
-use mathlib.Core.Option.{Option, none, some}
+use Rattle.std.specs.Prelude.{Option, None, Some}
 use mathlib.Core.List.{List, [], ◌∷◌, ◌++◌, append-nil}
 use Prim.Native.Nat.{ℕ, ◌<◌, ◌≤◌}
 use lib.Dec.{eqb, ltb}
@@ -24,22 +24,22 @@ abbrev pub touched_at : {A : Type 0} → (A → Bytes) → (A → Option A) → 
 touched_at w f o = differ (form_in w o) (form_in w (from_some o f))
 
 abbrev pub new_num : {A : Type 0} → (A → ℕ) → Option A → ℕ → Bool
-new_num num none n = false
-new_num num (some x) n = eqb (num x) n
+new_num num None n = false
+new_num num (Some x) n = eqb (num x) n
 
 pub differ_self : (f : Option Bytes) → differ f f ≡ false
 unfolding differ
-differ_self none = refl
-differ_self (some x) = rw (list_same x)
+differ_self None = refl
+differ_self (Some x) = rw (list_same x)
 
 pub alters_has : (m n : Map) (a : EntityRef) → alters m n a ≡ true → (has m a && has n a) ≡ true
 unfolding alters differ
 alters_has m n a t = rw (has_form m a, has_form n a) (go (form_of m a) (form_of n a) t)
   where
     go : (f g : Option Bytes) → differ f g ≡ true → (is_some f && is_some g) ≡ true
-    go none g t = t
-    go (some x) none t = t
-    go (some x) (some y) t = refl
+    go None g t = t
+    go (Some x) None t = t
+    go (Some x) (Some y) t = refl
 
 module _ {A : Type 0} (num : A → ℕ) (w : A → Bytes) (h : ℕ) (t : List A) (r : rising num 0 h t ≡ true) where
   pub record Told (f : A → Option A) (o : Option A) (t' : List A) (n : ℕ) : Type 0 where
@@ -47,16 +47,16 @@ module _ {A : Type 0} (num : A → ℕ) (w : A → Bytes) (h : ℕ) (t : List A)
     pub deleted : gone_at f (find num n t) ≡ (is_some (form_in w (find num n t)) && not (is_some (form_in w (find num n t'))))
     pub modified : touched_at w f (find num n t) ≡ differ (form_in w (find num n t)) (form_in w (find num n t'))
 
-  module _ (f : A → Option A) (same : (x y : A) → f x ≡ some y → num y ≡ num x) where
-    pub told : (o : Option A) → ((x : A) → o ≡ some x → h ≤ num x) → (n : ℕ) → Told f o (changed f t ++ one o) n
+  module _ (f : A → Option A) (same : (x y : A) → f x ≡ Some y → num y ≡ num x) where
+    pub told : (o : Option A) → ((x : A) → o ≡ Some x → h ≤ num x) → (n : ℕ) → Told f o (changed f t ++ one o) n
     unfolding form_in differ
     told o fresh n = go (find num n t) refl o fresh (found o)
       where
         found : (o : Option A) → find num n (changed f t ++ one o) ≡ or_else (from_some (find num n t) f) (found_new num o n)
-        found none = rw (append-nil, find_changed num f same 0 h n t r) (sym (or_none (from_some (find num n t) f)))
-        found (some x) = rw (find-append num n (changed f t) x, find_changed num f same 0 h n t r)
+        found None = rw (append-nil, find_changed num f same 0 h n t r) (sym (or_none (from_some (find num n t) f)))
+        found (Some x) = rw (find-append num n (changed f t) x, find_changed num f same 0 h n t r)
 
-        old : (y : A) → find num n t ≡ some y → n < h
+        old : (y : A) → find num n t ≡ Some y → n < h
         old y q = let v = found_is num n t (λ z. ltb (num z) h) y (rising_below num 0 h t r) q in let a = ltb-true (num y) h v.0 in let b = v.1 in omega arith
 
         sees : (y : Option A) (o : Option A) (g : Option A) → find num n t ≡ y → find num n (changed f t ++ one o) ≡ g
@@ -64,33 +64,33 @@ module _ {A : Type 0} (num : A → ℕ) (w : A → Bytes) (h : ℕ) (t : List A)
             → touched_at w f y ≡ differ (form_in w y) (form_in w g) → Told f o (changed f t ++ one o) n
         sees y o g p q c d m = record { created = rw (p, q) c; deleted = rw (p, q) d; modified = rw (p, q) m }
 
-        go : (y : Option A) → find num n t ≡ y → (o : Option A) → ((x : A) → o ≡ some x → h ≤ num x)
+        go : (y : Option A) → find num n t ≡ y → (o : Option A) → ((x : A) → o ≡ Some x → h ≤ num x)
             → find num n (changed f t ++ one o) ≡ or_else (from_some (find num n t) f) (found_new num o n) → Told f o (changed f t ++ one o) n
-        go none p none fresh e = sees none none none p (rw p at e) refl refl refl
-        go none p (some x) fresh e = at (eqb (num x) n) refl
+        go None p None fresh e = sees None None None p (rw p at e) refl refl refl
+        go None p (Some x) fresh e = at (eqb (num x) n) refl
           where
-            at : (b : Bool) → eqb (num x) n ≡ b → Told f (some x) (changed f t ++ (x ∷ [])) n
-            at true q = sees none (some x) (some x) p (rw (p, q) at e) (rw q) refl refl
-            at false q = sees none (some x) none p (rw (p, q) at e) (rw q) refl refl
-        go (some y) p none fresh e = at (f y) refl
+            at : (b : Bool) → eqb (num x) n ≡ b → Told f (Some x) (changed f t ++ (x ∷ [])) n
+            at true q = sees None (Some x) (Some x) p (rw (p, q) at e) (rw q) refl refl
+            at false q = sees None (Some x) None p (rw (p, q) at e) (rw q) refl refl
+        go (Some y) p None fresh e = at (f y) refl
           where
-            at : (z : Option A) → f y ≡ z → Told f none (changed f t ++ []) n
-            at none q = sees (some y) none none p (rw (p, q) at e) refl (rw q) (rw q)
-            at (some z) q = sees (some y) none (some z) p (rw (p, q) at e) refl (rw q) (rw q)
-        go (some y) p (some x) fresh e = at (f y) refl (ne_eqb (num x) n (λ q. let u = fresh x refl in let v = old y p in omega arith))
+            at : (z : Option A) → f y ≡ z → Told f None (changed f t ++ []) n
+            at None q = sees (Some y) None None p (rw (p, q) at e) refl (rw q) (rw q)
+            at (Some z) q = sees (Some y) None (Some z) p (rw (p, q) at e) refl (rw q) (rw q)
+        go (Some y) p (Some x) fresh e = at (f y) refl (ne_eqb (num x) n (λ q. let u = fresh x refl in let v = old y p in omega arith))
           where
-            at : (z : Option A) → f y ≡ z → eqb (num x) n ≡ false → Told f (some x) (changed f t ++ (x ∷ [])) n
-            at none q s = sees (some y) (some x) none p (rw (p, q, s) at e) (rw s) (rw q) (rw q)
-            at (some z) q s = sees (some y) (some x) (some z) p (rw (p, q) at e) (rw s) (rw q) (rw q)
+            at : (z : Option A) → f y ≡ z → eqb (num x) n ≡ false → Told f (Some x) (changed f t ++ (x ∷ [])) n
+            at None q s = sees (Some y) (Some x) None p (rw (p, q, s) at e) (rw s) (rw q) (rw q)
+            at (Some z) q s = sees (Some y) (Some x) (Some z) p (rw (p, q) at e) (rw s) (rw q) (rw q)
 
   -- where no record changes
-  pub told_kept : (o : Option A) → ((x : A) → o ≡ some x → h ≤ num x) → (n : ℕ) → Told some o (t ++ one o) n
-  told_kept o fresh n = subst (λ (l : List A). Told some o (l ++ one o) n) (changed_some t) (told some (λ x y e. let q : x ≡ y = cc in ap num (sym q)) o fresh n)
+  pub told_kept : (o : Option A) → ((x : A) → o ≡ Some x → h ≤ num x) → (n : ℕ) → Told Some o (t ++ one o) n
+  told_kept o fresh n = subst (λ (l : List A). Told Some o (l ++ one o) n) (changed_some t) (told Some (λ x y e. let q : x ≡ y = cc in ap num (sym q)) o fresh n)
 
-pub kept_not_gone : {A : Type 0} (o : Option A) → gone_at some o ≡ false
-kept_not_gone none = refl
-kept_not_gone (some x) = refl
+pub kept_not_gone : {A : Type 0} (o : Option A) → gone_at Some o ≡ false
+kept_not_gone None = refl
+kept_not_gone (Some x) = refl
 
-pub kept_untouched : {A : Type 0} (w : A → Bytes) (o : Option A) → touched_at w some o ≡ false
-kept_untouched w none = differ_self (form_in w none)
-kept_untouched w (some x) = differ_self (form_in w (some x))
+pub kept_untouched : {A : Type 0} (w : A → Bytes) (o : Option A) → touched_at w Some o ≡ false
+kept_untouched w None = differ_self (form_in w None)
+kept_untouched w (Some x) = differ_self (form_in w (Some x))

@@ -1,6 +1,5 @@
 -- What is promised of every run, in words of its own: no helper of the edits stands here.
-use Rattle.std.specs.Prelude.{ℕ, ◌+◌, max, ◌≡◌, Bool, true, false, not, ◌&&◌, ◌||◌, cond, List, [], ◌∷◌, ◌++◌, map, eqb, length}
-use Rattle.std.proofs.Math.Option.{Option, none, some}
+use Rattle.std.specs.Prelude.{ℕ, ◌+◌, max, ◌≡◌, Bool, true, false, not, ◌&&◌, ◌||◌, cond, List, [], ◌∷◌, ◌++◌, map, eqb, length, Option, None, Some}
 use Rattle.refusal.specs.Answer.{refused, done}
 use Rattle.rows.specs.Lists.{every, joined, same_list, member, twice}
 use Rattle.rows.specs.Table.{rising}
@@ -22,15 +21,15 @@ use Rattle.run.specs.Run.{Edit, line, signal, links, run_one, state_after, run_a
 -- ---- what a call alters
 
 unfoldable pub same_form : Option Bytes → Option Bytes → Bool
-same_form none none = true
-same_form none (some y) = false
-same_form (some x) none = false
-same_form (some x) (some y) = same_list x y
+same_form None None = true
+same_form None (Some y) = false
+same_form (Some x) None = false
+same_form (Some x) (Some y) = same_list x y
 
 unfoldable pub differ : Option Bytes → Option Bytes → Bool
-differ none g = false
-differ (some x) none = false
-differ (some x) (some y) = not (same_list x y)
+differ None g = false
+differ (Some x) None = false
+differ (Some x) (Some y) = not (same_list x y)
 
 -- present before and after, in differing written forms
 unfoldable pub alters : Map → Map → EntityRef → Bool
@@ -64,44 +63,44 @@ handed_out es s = joined handed (sets_of es s)
 unfoldable pub own_line : RuleBody → Option ℕ
 own_line (light signals l) = l
 own_line (sign type shape l) = l
-own_line (marking l) = some l
-own_line (right_of_way priority yielding ls) = none
-own_line (crossing c ls) = none
-own_line (other k) = none
+own_line (marking l) = Some l
+own_line (right_of_way priority yielding ls) = None
+own_line (crossing c ls) = None
+own_line (other k) = None
 
 abbrev pub or_next : Option ℕ → Option ℕ → Option ℕ
-or_next (some s) rest = some s
-or_next none rest = rest
+or_next (Some s) rest = Some s
+or_next None rest = rest
 
 -- the own line of the lowest-numbered rule that lists the lane and has one
 unfoldable pub line_on_lane : ℕ → List Rule → Option ℕ
-line_on_lane n [] = none
+line_on_lane n [] = None
 line_on_lane n (r ∷ rs) = let rest = line_on_lane n rs in cond (member n r.lanes) (or_next (own_line r.body) rest) rest
 
 -- the own line of the rule with a number
 unfoldable pub line_of_rule : ℕ → List Rule → Option ℕ
-line_of_rule n [] = none
+line_of_rule n [] = None
 line_of_rule n (r ∷ rs) = let rest = line_of_rule n rs in cond (eqb r.num n) (own_line r.body) rest
 
 unfoldable pub groups_line : Option ℕ → List Rule → Option ℕ
-groups_line none rs = none
-groups_line (some g) rs = line_of_rule g rs
+groups_line None rs = None
+groups_line (Some g) rs = line_of_rule g rs
 
 unfoldable pub first_lanes_line : List ℕ → List Rule → Option ℕ
-first_lanes_line [] rs = none
+first_lanes_line [] rs = None
 first_lanes_line (n ∷ ns) rs = line_on_lane n rs
 
 -- what was found, or the number that a new line gets
 abbrev pub found_or : ℕ → Option ℕ → ℕ
-found_or n none = n
-found_or n (some s) = s
+found_or n None = n
+found_or n (Some s) = s
 
 -- by the choice: the number that a new line gets, the group's own line and the first lane's
 unfoldable pub chosen_line : StopLineChoice → ℕ → Option ℕ → Option ℕ → Option ℕ
-chosen_line (Existing s) drawn own found = some s
-chosen_line (New how) drawn own found = some drawn
+chosen_line (Existing s) drawn own found = Some s
+chosen_line (New how) drawn own found = Some drawn
 chosen_line NoLine drawn own found = own
-chosen_line Automatic drawn own found = some (found_or drawn (or_next own found))
+chosen_line Automatic drawn own found = Some (found_or drawn (or_next own found))
 
 unfoldable pub lights_line : NewTrafficSignal → Map → Option ℕ
 lights_line a m = chosen_line a.choice (max 1 m.next) (groups_line a.group m.rules) (first_lanes_line a.lanes m.rules)
@@ -114,21 +113,21 @@ meets ls (n ∷ ns) = member n ls || meets ls ns
 
 -- the line of a marking rule (kind 3) or a stop-sign rule (kind 2, sign type 1)
 unfoldable pub halt_line : RuleBody → Option ℕ
-halt_line (light signals l) = none
-halt_line (sign type shape l) = cond (eqb type 1) l none
-halt_line (marking l) = some l
-halt_line (right_of_way priority yielding ls) = none
-halt_line (crossing c ls) = none
-halt_line (other k) = none
+halt_line (light signals l) = None
+halt_line (sign type shape l) = cond (eqb type 1) l None
+halt_line (marking l) = Some l
+halt_line (right_of_way priority yielding ls) = None
+halt_line (crossing c ls) = None
+halt_line (other k) = None
 
 unfoldable pub is_line : ℕ → Option ℕ → Bool
-is_line s none = false
-is_line s (some n) = eqb n s
+is_line s None = false
+is_line s (Some n) = eqb n s
 
 -- no marking and no stop sign on the line s lists a lane of ls
 unfoldable pub no_stop : Option ℕ → List ℕ → Map → Bool
-no_stop none ls m = true
-no_stop (some s) ls m = every (λ r. not (is_line s (halt_line r.body) && meets ls r.lanes)) m.rules
+no_stop None ls m = true
+no_stop (Some s) ls m = every (λ r. not (is_line s (halt_line r.body) && meets ls r.lanes)) m.rules
 
 unfoldable pub lifted_by : Edit → Map → Map → Bool
 lifted_by (line a) m n = true
@@ -140,13 +139,13 @@ pub record Joined (a : NewTrafficSignal) (m n : Map) (g : ℕ) : Type 0 where
   -- it has drawn no line
   pub lines : n.stop_lines ≡ m.stop_lines
   -- the group's line is g still
-  pub own : groups_line a.group n.rules ≡ some g
+  pub own : groups_line a.group n.rules ≡ Some g
   -- and no stop rule of its lanes is left there
-  pub cleared : no_stop (some g) a.lanes n ≡ true
+  pub cleared : no_stop (Some g) a.lanes n ≡ true
 
 abbrev pub JoinsGroup : Edit → Map → Map → Type 0
 JoinsGroup (line a) m n = Unit {0}
-JoinsGroup (signal a) m n = (g : ℕ) → groups_line a.group m.rules ≡ some g → Joined a m n g
+JoinsGroup (signal a) m n = (g : ℕ) → groups_line a.group m.rules ≡ Some g → Joined a m n g
 JoinsGroup (links a) m n = Unit {0}
 
 -- an accepted light has left no stop rule of its lanes on its line

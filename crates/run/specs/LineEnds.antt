@@ -1,6 +1,5 @@
 -- Which calls answer the names of a line's ends, and what they are the names of.
-use Rattle.std.specs.Prelude.{ℕ, ◌≡◌, List, [], ◌∷◌, ◌++◌, Float, get_or}
-use Rattle.std.proofs.Math.Option.{Option, none, some}
+use Rattle.std.specs.Prelude.{ℕ, ◌≡◌, List, [], ◌∷◌, ◌++◌, Float, get_or, Option, None, Some}
 use Rattle.refusal.specs.Answer.{done}
 use Rattle.rows.specs.Lists.{or_else}
 use Rattle.geometry.specs.Double.{f0}
@@ -35,12 +34,12 @@ pub record PlacedEnds (m : Map) (lanes : List ℕ) (how : Placement) (cs : List 
 
 -- no line is placed, and none named
 pub record NoEnds (m : Map) (t : LineTold) : Type 0 where
-  pub ends : t.ends ≡ none
+  pub ends : t.ends ≡ None
   pub stored : t.lines ≡ m.stop_lines
 
 abbrev pub AutoEnds : Map → List ℕ → Option ℕ → LineTold → Type 0
-AutoEnds m lanes (some s) t = NoEnds m t
-AutoEnds m lanes none t = PlacedEnds m lanes (AtLaneEnd f0) [] t
+AutoEnds m lanes (Some s) t = NoEnds m t
+AutoEnds m lanes None t = PlacedEnds m lanes (AtLaneEnd f0) [] t
 
 abbrev pub ChoiceEnds : Map → List ℕ → Option ℕ → StopLineChoice → List Float → LineTold → Type 0
 ChoiceEnds m lanes group (Existing s) cs t = NoEnds m t

@@ -1,14 +1,12 @@
 -- What an exported run leaves: its result, the tally as words, and what was written.
-use Rattle.std.specs.Prelude.{ℕ, ◌≡◌, true, List, [], ◌∷◌, ◌++◌, length}
-use Rattle.std.proofs.Math.Option.{Option}
+use Rattle.std.specs.Prelude.{ℕ, ◌≡◌, true, List, [], ◌∷◌, ◌++◌, length, Result, Ok, Err, Option}
 use Rattle.refusal.specs.Refusal.{refusal_number}
 use Rattle.refusal.specs.Answer.{Answer, refused, done}
+use Rattle.refusal.specs.declared.Refusal.{Refusal}
 use Rattle.codec.specs.Format.{Bytes}
 use Rattle.map.specs.Record.{Map}
 use Rattle.map.specs.MapFile.{is_map}
 use Rattle.changes.specs.Running.{opening}
-use Rattle.files.specs.declared.Written.{Written}
-use Rattle.files.specs.declared.Written.TheVariants as W
 use Rattle.files.specs.Files.{read_map}
 use Rattle.edit.specs.Lent.{Lent, state_of}
 use Rattle.run.specs.Run.{Edit, run_all}
@@ -29,13 +27,13 @@ pub record RunWritten (rows : List (Option Edit)) (old : Lent) (answers : List �
   pub kept : (r ≡ 0 → ⊥) → (new ≡ old) × (answers' ≡ answers)
 
 -- what was written: 0 and how many bytes, or the refusal's number and 0
-abbrev pub written_words : Written → List ℕ
-written_words (W.Done n) = 0 ∷ n ∷ []
-written_words (W.Refused x) = refusal_number x ∷ 0 ∷ []
+abbrev pub written_words : Result ℕ Refusal → List ℕ
+written_words (Ok n) = 0 ∷ n ∷ []
+written_words (Err x) = refusal_number x ∷ 0 ∷ []
 
 -- a run from the map m, with what it wrote told in two words
 pub record RunTold (m : Map) (rows : List (Option Edit)) (old : Lent) (answers buffer : List ℕ) (new : Lent) (answers' buffer' written' : List ℕ) : Type 0 where
-  pub what : Written
+  pub what : Result ℕ Refusal
   pub told : written' ≡ written_words what
   pub left : LeftByRun m rows old answers buffer what new answers' buffer'
 

@@ -7,8 +7,7 @@ ghost use Rattle.call_list.specs.Rows.{rows_in};
 ghost use Rattle.tally_words.specs.Words.{tally_in};
 ghost use Rattle.run_export.specs.Written.{RunWritten, OpenedWritten, written_words};
 
-use call_list::Ran;
-use files::Written;
+use refusal::Refusal;
 
 // A list of calls, rows of 28 words with two pools: 0, or 12, 13 or 14 where nothing was carried out.
 #[unsafe(no_mangle)]
@@ -31,21 +30,21 @@ pub extern "C" fn lane_map_run_calls(
     tally_words::put_tally(tally, k);
     let ran = a.ran;
     match ran {
-        Ran::Done(_) => 0,
-        Ran::Refused(x) => refusal::number(x),
+        Ok(_) => 0,
+        Err(x) => x.number(),
     }
 }
 
 // What was written, in two words: 0 and how many bytes, or the refusal and 0.
-fn put_written(t: &mut [u64; 2], w: Written)
+fn put_written(t: &mut [u64; 2], w: Result<usize, Refusal>)
     ensures { t.new ≡ written_words w }
 {
     match w {
-        Written::Done(n) => {
+        Ok(n) => {
             *t = [0, n as u64];
         }
-        Written::Refused(x) => {
-            *t = [refusal::number(x), 0];
+        Err(x) => {
+            *t = [x.number(), 0];
         }
     }
 }
@@ -74,13 +73,13 @@ pub extern "C" fn lane_map_run_opened(
     );
     let ran = a.ran;
     match ran {
-        Ran::Done(_) => {
+        Ok(_) => {
             let t = a.tally;
             let w = a.written;
             tally_words::put_tally(tally, t);
             put_written(written, w);
             0
         }
-        Ran::Refused(x) => refusal::number(x),
+        Err(x) => x.number(),
     }
 }

@@ -2,13 +2,14 @@
 use Prim.Native.Nat.{ℕ, ◌*◌, ◌/◌, ◌≤◌}
 use mathlib.Core.Path.{◌≡◌, refl, sym, ap, subst, ◌∙◌}
 use mathlib.Core.Bool.{Bool, true, false, not, ◌&&◌}
-use mathlib.Core.Option.{Option, none, some}
+use Rattle.std.specs.Prelude.{Option, None, Some}
 use mathlib.Core.List.{List, []}
 use lib.Dec.{eqb}
 use lib.Ieee.{Float}
 use lib.ListN.{length}
 use borrow.Author.Tests.{eq-eqb, ne_eqb, le-ltb, eqb-true}
 use native.Mathlib.Omega.{arith}
+use Rattle.std.proofs.Common.{Result, Ok, Err}
 use Rattle.refusal.specs.declared.Refusal.{Refusal}
 use Rattle.refusal.specs.declared.Refusal.TheVariants.{BadMap}
 use Rattle.refusal.specs.Answer.{Answer, refused, done, refused_as, ◌>>=◌, ◌>>◌, refuse_when, present}
@@ -25,10 +26,6 @@ use Rattle.changes.specs.ChangeFile.{change_file, is_set}
 use Rattle.changes.specs.Layout.{set_words, change_set_of}
 use Rattle.changes.specs.Running.{State, opening}
 use Rattle.mapfile.specs.MapBytes.{is_there, is_map_file}
-use Rattle.files.specs.declared.Opened.{Opened}
-use Rattle.files.specs.declared.Opened.TheVariants as O
-use Rattle.files.specs.declared.Written.{Written}
-use Rattle.files.specs.declared.Written.TheVariants as W
 use Rattle.files.specs.Files.{read_map, put_in, write_changes}
 use Rattle.files.specs.OpenInto.{MapOpened, open_into}
 use Rattle.files.specs.WriteOut.{FileWritten, write_set, ChangesWritten}
@@ -38,8 +35,6 @@ use Rattle.edit.specs.Lent.{Lent, state_of}
 use Rattle.run.specs.Run.{Edit, run_all, sets_of}
 use Rattle.run.specs.Law.{RunLaw}
 use Rattle.call_list.specs.Reply.{reply_length}
-use Rattle.call_list.specs.declared.Ran.{Ran}
-use Rattle.call_list.specs.declared.Ran.TheVariants as R
 use Rattle.call_list.specs.Step.{Fitting}
 use Rattle.call_list.specs.Rows.{row_words, row_at, rows_in, edits_of}
 use Rattle.call_list.specs.Ran.{ran, room_answer, RowsLeft, last_set}
@@ -61,7 +56,7 @@ module _ (n : ℕ) (fold set answers : List ℕ) where
     unfolding sets_answer
     bad_set h = rw (eq-eqb (length fold) set_words p, ne_eqb (length set) set_words h)
 
-    pub by_room : length set ≡ set_words → (r : Ran) → ran r ≡ room_answer n answers → ran r ≡ sets_answer n fold set answers
+    pub by_room : length set ≡ set_words → (r : Result ℕ Refusal) → ran r ≡ room_answer n answers → ran r ≡ sets_answer n fold set answers
     unfolding sets_answer
     by_room q r h = rw (eq-eqb (length fold) set_words p, eq-eqb (length set) set_words q) h
 
@@ -113,27 +108,27 @@ module _ (file : Bytes) (rows : List (Option Edit)) (l : Lent) (a : List ℕ) wh
       sets_wrong h x e = rw by_file (go (file_of map_file file) h)
         where
           go : (o : Option Map) → is_there o ≡ true → refused_as x ≡ (present o 12 [] >> sets_answer (length rows) l.fold l.set a)
-          go none t = clash t refl
-          go (some m) t = e
+          go None t = clash t refl
+          go (Some m) t = e
 
 -- ---- what is tested before the file is opened
 
-no_ran : {A : Type 0} (x : Refusal) (n : ℕ) → R.Refused x ≡ R.Done n → A
+no_ran : {A : Type 0} (x : Refusal) (n : ℕ) → Err x ≡ Ok n → A
 no_ran x n e = absurd (let z : ◌≡◌ {A = ℕ} 0 1 = cc in let u : ⊥ = omega arith in u)
 
 module _ (file : Bytes) (calls : List ℕ) (l : Lent) (a : List ℕ) where
-  tested_no : (x : Refusal) → ((rows : List (Option Edit)) → length rows ≡ length calls / row_words → refused_as x ≡ opened_answer file rows l a) → Tested file calls l a (R.Refused x)
+  tested_no : (x : Refusal) → ((rows : List (Option Edit)) → length rows ≡ length calls / row_words → refused_as x ≡ opened_answer file rows l a) → Tested file calls l a (Err x)
   tested_no x h = record { refusal = λ y e rows k. let same : x ≡ y = cc in rw (← same) (h rows k); count = λ n e. no_ran x n e; room = λ n e. no_ran x n e }
 
-  pub tested_words : (length l.words ≡ all_words → ⊥) → Tested file calls l a (R.Refused BadMap)
+  pub tested_words : (length l.words ≡ all_words → ⊥) → Tested file calls l a (Err BadMap)
   tested_words h = tested_no BadMap (λ rows k. words_wrong file rows l a h)
 
   module _ (p : length l.words ≡ all_words) where
-    pub tested_coords : (length l.coords ≡ all_coords → ⊥) → Tested file calls l a (R.Refused BadMap)
+    pub tested_coords : (length l.coords ≡ all_coords → ⊥) → Tested file calls l a (Err BadMap)
     tested_coords h = tested_no BadMap (λ rows k. coords_wrong file rows l a p h)
 
-    module _ (q : length l.coords ≡ all_coords) (k : Ran) (h : ran k ≡ sets_answer (length calls / row_words) l.fold l.set a) where
-      pub tested_done : (n : ℕ) → k ≡ R.Done n → Tested file calls l a (R.Done n)
+    module _ (q : length l.coords ≡ all_coords) (k : Result ℕ Refusal) (h : ran k ≡ sets_answer (length calls / row_words) l.fold l.set a) where
+      pub tested_done : (n : ℕ) → k ≡ Ok n → Tested file calls l a (Ok n)
       tested_done n e =
           let f = sets_fit (length calls / row_words) n l.fold l.set a (ap ran (sym e) ∙ h) in
           record {
@@ -146,11 +141,11 @@ module _ (file : Bytes) (calls : List ℕ) (l : Lent) (a : List ℕ) where
             });
           }
 
-      module _ (x : Refusal) (e : k ≡ R.Refused x) (good : Bool) (g : good ≡ is_map_file file) where
-        pub tested_sets : good ≡ true → Tested file calls l a (R.Refused x)
+      module _ (x : Refusal) (e : k ≡ Err x) (good : Bool) (g : good ≡ is_map_file file) where
+        pub tested_sets : good ≡ true → Tested file calls l a (Err x)
         tested_sets t = tested_no x (λ rows c. sets_wrong file rows l a p q (sym g ∙ t) x (ap ran (sym e) ∙ h ∙ ap (λ (n : ℕ). sets_answer n l.fold l.set a) (sym c)))
 
-        pub tested_file : good ≡ false → Tested file calls l a (R.Refused BadMap)
+        pub tested_file : good ≡ false → Tested file calls l a (Err BadMap)
         tested_file t = tested_no BadMap (λ rows c. file_wrong file rows l a p q (sym g ∙ t))
 
 -- ---- the outcome: k is what the tests before the file answered
@@ -159,7 +154,7 @@ rows_count : (calls lists : List ℕ) (reals : List Float) → length (rows_in c
 unfolding rows_in
 rows_count calls lists reals = length-list_to (row_at calls lists reals) (length calls / row_words)
 
-module _ (file : Bytes) (calls lists : List ℕ) (reals : List Float) (ws : List ℕ) (cs : List Float) (fs set answers buffer : List ℕ) (k : Ran) (t : Tested file calls (lent ws cs fs no_tally set) answers k) where
+module _ (file : Bytes) (calls lists : List ℕ) (reals : List Float) (ws : List ℕ) (cs : List Float) (fs set answers buffer : List ℕ) (k : Result ℕ Refusal) (t : Tested file calls (lent ws cs fs no_tally set) answers k) where
   abbrev rows : List (Option Edit)
   rows = rows_in calls lists reals
 
@@ -167,7 +162,7 @@ module _ (file : Bytes) (calls lists : List ℕ) (reals : List Float) (ws : List
   old = lent ws cs fs no_tally set
 
   -- refused before the file is opened
-  pub out_before : (x : Refusal) → k ≡ R.Refused x → (r : Ran) (w : Written) (u : Tally) → (r ≡ R.Refused x) × (u ≡ no_tally) × (w ≡ W.Refused x)
+  pub out_before : (x : Refusal) → k ≡ Err x → (r : Result ℕ Refusal) (w : Result ℕ Refusal) (u : Tally) → (r ≡ Err x) × (u ≡ no_tally) × (w ≡ Err x)
       → OpenedLeft file rows old answers buffer r w (lent ws cs fs u set) answers buffer
   out_before x e r w u p = rw (p.0, p.1, p.2) (record {
     answer = t.refusal x e rows (rows_count calls lists reals);
@@ -176,7 +171,7 @@ module _ (file : Bytes) (calls lists : List ℕ) (reals : List Float) (ws : List
     unwritten = λ y q. cc;
   })
 
-  module _ (n : ℕ) (e : k ≡ R.Done n) where
+  module _ (n : ℕ) (e : k ≡ Ok n) where
     fits : Fitting old
     fits = (t.room n e).tables
 
@@ -199,10 +194,10 @@ module _ (file : Bytes) (calls lists : List ℕ) (reals : List Float) (ws : List
     }
 
     -- refused for the file
-    pub out_for_file : (o : Opened) (x : Refusal) (ws' : List ℕ) (cs' : List Float) (fs' : List ℕ) → MapOpened file ws cs fs o ws' cs' fs' → o ≡ O.Refused x
-        → (r : Ran) (w : Written) (u : Tally) → (r ≡ R.Refused x) × (u ≡ no_tally) × (w ≡ W.Refused x)
+    pub out_for_file : (o : Result Tally Refusal) (x : Refusal) (ws' : List ℕ) (cs' : List Float) (fs' : List ℕ) → MapOpened file ws cs fs o ws' cs' fs' → o ≡ Err x
+        → (r : Result ℕ Refusal) (w : Result ℕ Refusal) (u : Tally) → (r ≡ Err x) × (u ≡ no_tally) × (w ≡ Err x)
         → OpenedLeft file rows old answers buffer r w (lent ws' cs' fs' u set) answers buffer
-    out_for_file o x ws' cs' fs' h z r w u p = rw (p.0, p.1, p.2) (made (subst (λ (y : Opened). MapOpened file ws cs fs y ws' cs' fs') z h))
+    out_for_file o x ws' cs' fs' h z r w u p = rw (p.0, p.1, p.2) (made (subst (λ (y : Result Tally Refusal). MapOpened file ws cs fs y ws' cs' fs') z h))
       where
         go : (a : Answer Map) → refused_as x ≡ (a >>= λ m. done (opening m)) → refused_as x ≡ (a >> done n)
         go (refused i ds) q = named q
@@ -211,7 +206,7 @@ module _ (file : Bytes) (calls lists : List ℕ) (reals : List Float) (ws : List
             named q = cc
         go (done m) q = cc
 
-        made : MapOpened file ws cs fs (O.Refused x) ws' cs' fs' → OpenedLeft file rows old answers buffer (R.Refused x) (W.Refused x) (lent ws' cs' fs' no_tally set) answers buffer
+        made : MapOpened file ws cs fs (Err x) ws' cs' fs' → OpenedLeft file rows old answers buffer (Err x) (Err x) (lent ws' cs' fs' no_tally set) answers buffer
         made o = record {
           answer = go (read_map file) (o.is ∙ into_read) ∙ sym answer_by;
           left = λ m q z. clash refl q;
@@ -220,12 +215,12 @@ module _ (file : Bytes) (calls lists : List ℕ) (reals : List Float) (ws : List
         }
 
     -- carried out
-    module _ (o : Opened) (u : Tally) (ws' : List ℕ) (cs' : List Float) (fs' : List ℕ) (h : MapOpened file ws cs fs o ws' cs' fs') (z : o ≡ O.Done u) where
+    module _ (o : Result Tally Refusal) (u : Tally) (ws' : List ℕ) (cs' : List Float) (fs' : List ℕ) (h : MapOpened file ws cs fs o ws' cs' fs') (z : o ≡ Ok u) where
       abbrev opened : Lent
       opened = lent ws' cs' fs' u set
 
       into : done (state_of opened) ≡ (read_map file >>= λ m. done (opening m))
-      into = (subst (λ (y : Opened). MapOpened file ws cs fs y ws' cs' fs') z h).is ∙ into_read
+      into = (subst (λ (y : Result Tally Refusal). MapOpened file ws cs fs y ws' cs' fs') z h).is ∙ into_read
 
       begun : (m : Map) → read_map file ≡ done m → state_of opened ≡ opening m
       begun m e = go (into ∙ rw e)
@@ -233,8 +228,8 @@ module _ (file : Bytes) (calls lists : List ℕ) (reals : List Float) (ws : List
           go : ◌≡◌ {A = Answer State} (done (state_of opened)) (done (opening m)) → state_of opened ≡ opening m
           go q = cc
 
-      pub out_done : (new : Lent) (answers' : List ℕ) (w : Written) (buffer' : List ℕ) → RowsLeft (list_to (row_at calls lists reals) n) opened answers new answers'
-          → length new.fold ≡ length fs → ChangesWritten new.fold buffer w buffer' → OpenedLeft file rows old answers buffer (R.Done n) w new answers' buffer'
+      pub out_done : (new : Lent) (answers' : List ℕ) (w : Result ℕ Refusal) (buffer' : List ℕ) → RowsLeft (list_to (row_at calls lists reals) n) opened answers new answers'
+          → length new.fold ≡ length fs → ChangesWritten new.fold buffer w buffer' → OpenedLeft file rows old answers buffer (Ok n) w new answers' buffer'
       unfolding rows_in
       out_done new answers' w buffer' g c p =
           let g' = subst (λ (i : ℕ). RowsLeft (list_to (row_at calls lists reals) i) opened answers new answers') (t.count n e) g in

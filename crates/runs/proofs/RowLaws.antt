@@ -1,4 +1,5 @@
 -- One row further in a run, and the run of a list of calls. Assumes nothing.
+use Rattle.std.specs.Prelude.{Err, Ok, Result}
 use Prim.Native.Nat.{ℕ, ◌+◌, ◌*◌, ◌/◌, ◌≤◌, ◌<◌}
 use mathlib.Core.Path.{◌≡◌, sym, ap, subst, ◌∙◌}
 use mathlib.Core.List.{List}
@@ -12,8 +13,6 @@ use Rattle.rows.specs.Lists.{list_to}
 use Rattle.rows.specs.Rows.{cut, pasted}
 use Rattle.rows.proofs.RowLaws.{length_cut}
 use Rattle.edit.specs.Lent.{Lent}
-use Rattle.call_list.specs.declared.Ran.{Ran}
-use Rattle.call_list.specs.declared.Ran.TheVariants as R
 use Rattle.call_list.specs.declared.Reply.{Reply}
 use Rattle.call_list.specs.Reply.{reply_length, reply_words}
 use Rattle.call_list.specs.Step.{Fitting, Held, held_of, StepLeft}
@@ -62,20 +61,20 @@ row_words_lem calls row i n e q h = ap length e ∙ length_cut calls (i * 28) 28
 pub whole_rows : (n x : ℕ) → n ≡ x / row_words → n * row_words ≤ x
 whole_rows n x e = rw e (omega (arith, div-add-mod' x 28))
 
-module _ (calls lists : List ℕ) (reals : List Float) (old : Lent) (answers : List ℕ) (k : Ran) (h : ran k ≡ run_answer (length calls / row_words) old answers) where
-  pub run_refused : (x : Refusal) → k ≡ R.Refused x → RunLeft (rows_in calls lists reals) old answers (R.Refused x) old answers
+module _ (calls lists : List ℕ) (reals : List Float) (old : Lent) (answers : List ℕ) (k : Result ℕ Refusal) (h : ran k ≡ run_answer (length calls / row_words) old answers) where
+  pub run_refused : (x : Refusal) → k ≡ Err x → RunLeft (rows_in calls lists reals) old answers (Err x) old answers
   unfolding rows_in
   run_refused x e = left_refused (row_at calls lists reals) (length calls / row_words) old answers x (ap ran (sym e) ∙ h)
 
-  counted : (n : ℕ) → k ≡ R.Done n → done n ≡ run_answer (length calls / row_words) old answers
+  counted : (n : ℕ) → k ≡ Ok n → done n ≡ run_answer (length calls / row_words) old answers
   counted n e = ap ran (sym e) ∙ h
 
-  pub run_room : (n : ℕ) → k ≡ R.Done n → Room old calls answers n
+  pub run_room : (n : ℕ) → k ≡ Ok n → Room old calls answers n
   run_room n e =
       let f = all_fit old answers (length calls / row_words) n (counted n e) in
       record { tables = f.tables; rows = whole_rows n (length calls) f.count; answers = f.answers }
 
-  pub run_done : (n : ℕ) → k ≡ R.Done n → (new : Lent) (answers' : List ℕ) → RowsLeft (list_to (row_at calls lists reals) n) old answers new answers'
-      → RunLeft (rows_in calls lists reals) old answers (R.Done n) new answers'
+  pub run_done : (n : ℕ) → k ≡ Ok n → (new : Lent) (answers' : List ℕ) → RowsLeft (list_to (row_at calls lists reals) n) old answers new answers'
+      → RunLeft (rows_in calls lists reals) old answers (Ok n) new answers'
   unfolding rows_in
   run_done n e new answers' g = left_done (row_at calls lists reals) (length calls / row_words) old answers n new answers' (counted n e) g

@@ -1,6 +1,5 @@
 -- A map file opened, a list of calls carried out on it, and the running fold written as a change set file. What every run promises, for what this code leaves.
-use Rattle.std.specs.Prelude.{ℕ, ◌*◌, ◌/◌, ◌≡◌, true, false, not, ◌&&◌, List, [], ◌++◌, eqb, length, drop}
-use Rattle.std.proofs.Math.Option.{Option}
+use Rattle.std.specs.Prelude.{ℕ, ◌*◌, ◌/◌, ◌≡◌, true, false, not, ◌&&◌, List, [], ◌++◌, eqb, length, drop, Result, Err, Option, Ok}
 use Rattle.refusal.specs.Answer.{Answer, done, refused_as, ◌>>◌, refuse_when}
 use Rattle.codec.specs.Format
 use Rattle.codec.specs.Format.{Bytes}
@@ -10,15 +9,11 @@ use Rattle.changes.specs.ChangeFile.{change_file}
 use Rattle.changes.specs.Layout.{set_words, change_set_of}
 use Rattle.changes.specs.Running.{opening}
 use Rattle.refusal.specs.declared.Refusal.{Refusal}
-use Rattle.files.specs.declared.Written.{Written}
-use Rattle.files.specs.declared.Written.TheVariants as W
 use Rattle.files.specs.Files.{read_map, put_in}
 use Rattle.files.specs.WriteOut.{FileWritten}
 use Rattle.edit.specs.Lent.{Lent, state_of}
 use Rattle.run.specs.Run.{Edit, run_all, sets_of}
 use Rattle.run.specs.Law.{RunLaw}
-use Rattle.call_list.specs.declared.Ran.{Ran}
-use Rattle.call_list.specs.declared.Ran.TheVariants as R
 use Rattle.call_list.specs.Reply.{reply_length}
 use Rattle.call_list.specs.Rows.{row_words, edits_of}
 use Rattle.call_list.specs.Ran.{ran, is_refused, room_answer, replies, last_set}
@@ -38,13 +33,13 @@ opened_answer file rows l answers = do
   sets_answer (length rows) l.fold l.set answers
 
 -- what is tested before the file is opened: a refusal of the whole, or the number of rows where only the file may still be refused
-pub record Tested (file : Bytes) (calls : List ℕ) (l : Lent) (a : List ℕ) (r : Ran) : Type 0 where
-  pub refusal : (x : Refusal) → r ≡ R.Refused x → (rows : List (Option Edit)) → length rows ≡ length calls / row_words → refused_as x ≡ opened_answer file rows l a
-  pub count : (n : ℕ) → r ≡ R.Done n → n ≡ length calls / row_words
-  pub room : (n : ℕ) → r ≡ R.Done n → Room l calls a n
+pub record Tested (file : Bytes) (calls : List ℕ) (l : Lent) (a : List ℕ) (r : Result ℕ Refusal) : Type 0 where
+  pub refusal : (x : Refusal) → r ≡ Err x → (rows : List (Option Edit)) → length rows ≡ length calls / row_words → refused_as x ≡ opened_answer file rows l a
+  pub count : (n : ℕ) → r ≡ Ok n → n ≡ length calls / row_words
+  pub room : (n : ℕ) → r ≡ Ok n → Room l calls a n
 
 -- for m the map of the file, es the calls among the rows, and s the state that the tables, the fold and the tally stand for at the end
-pub record LeftByRun (m : Map) (rows : List (Option Edit)) (old : Lent) (answers buffer : List ℕ) (w : Written) (new : Lent) (answers' buffer' : List ℕ) : Type 0 where
+pub record LeftByRun (m : Map) (rows : List (Option Edit)) (old : Lent) (answers buffer : List ℕ) (w : Result ℕ Refusal) (new : Lent) (answers' buffer' : List ℕ) : Type 0 where
   -- s is where the definition's run of es from the opening of m ends
   pub state : state_of new ≡ run_all (edits_of rows) (opening m)
   -- the law of every run holds of m, es and s: the fold and its tally, what it names, the record count, what no call alters, the numbers, the lights
@@ -57,10 +52,10 @@ pub record LeftByRun (m : Map) (rows : List (Option Edit)) (old : Lent) (answers
   pub written : FileWritten (put_in (change_file.write (state_of new).fold) buffer) (change_file.write (state_of new).fold) buffer w buffer'
 
 -- the whole outcome
-pub record OpenedLeft (file : Bytes) (rows : List (Option Edit)) (old : Lent) (answers buffer : List ℕ) (r : Ran) (w : Written) (new : Lent) (answers' buffer' : List ℕ) : Type 0 where
+pub record OpenedLeft (file : Bytes) (rows : List (Option Edit)) (old : Lent) (answers buffer : List ℕ) (r : Result ℕ Refusal) (w : Result ℕ Refusal) (new : Lent) (answers' buffer' : List ℕ) : Type 0 where
   pub answer : ran r ≡ opened_answer file rows old answers
   pub left : (m : Map) → is_refused r ≡ false → read_map file ≡ done m → LeftByRun m rows old answers buffer w new answers' buffer'
   -- refused, nothing is altered
   pub kept : is_refused r ≡ true → (new ≡ old) × (answers' ≡ answers) × (buffer' ≡ buffer)
   -- and what is answered of the writing is that refusal
-  pub unwritten : (x : Refusal) → r ≡ R.Refused x → w ≡ W.Refused x
+  pub unwritten : (x : Refusal) → r ≡ Err x → w ≡ Err x

@@ -8,9 +8,8 @@ ghost use Rattle.call_list.specs.Ran.{ran, RowsLeft, RunLeft};
 ghost use Rattle.runs.specs.Loop.{Room, no_tally};
 ghost use Rattle.runs.specs.Opened.{sets_answer, Tested, OpenedLeft};
 
-use call_list::{Ran, RunAnswer};
+use call_list::RunAnswer;
 use changes::Tally;
-use files::{Opened, Written};
 use refusal::Refusal;
 use store::layout;
 
@@ -60,12 +59,9 @@ pub fn run_calls(
 {
     let checked = call_list::check_run(words, coords, fold, tally, set, calls, answers);
     match checked {
-        Ran::Refused(x) => RunAnswer {
-            ran: Ran::Refused(x),
-            tally,
-        },
-        Ran::Done(n) => RunAnswer {
-            ran: Ran::Done(n),
+        Err(x) => RunAnswer { ran: Err(x), tally },
+        Ok(n) => RunAnswer {
+            ran: Ok(n),
             tally: run_rows(
                 words, coords, fold, tally, set, calls, lists, reals, answers, n,
             ),
@@ -74,14 +70,14 @@ pub fn run_calls(
 }
 
 // Whether the fold and the set have their lengths, and whether there is room for the answers of n rows.
-fn check_sets(fold: &[u64], set: &[u64], n: usize, answers: &[u64]) -> Ran
+fn check_sets(fold: &[u64], set: &[u64], n: usize, answers: &[u64]) -> Result<usize, Refusal>
     ensures { ran result ≡ sets_answer n fold.now set.now answers.now }
 {
     if fold.len() != changes::layout::WORDS {
-        return Ran::Refused(Refusal::BadSet);
+        return Err(Refusal::BadSet);
     }
     if set.len() != changes::layout::WORDS {
-        return Ran::Refused(Refusal::BadSet);
+        return Err(Refusal::BadSet);
     }
     call_list::check_room(n, answers)
 }
@@ -96,23 +92,23 @@ fn check_opened(
     set: &[u64],
     calls: &[u64],
     answers: &[u64],
-) -> Ran
+) -> Result<usize, Refusal>
     ensures { Tested file.now calls.now (record { words = words.now; coords = coords.now; fold = fold.now; tally = no_tally; set = set.now }) answers.now result }
 {
     if words.len() != layout::WORDS {
-        return Ran::Refused(Refusal::BadMap);
+        return Err(Refusal::BadMap);
     }
     if coords.len() != layout::COORDS {
-        return Ran::Refused(Refusal::BadMap);
+        return Err(Refusal::BadMap);
     }
     let checked = check_sets(fold, set, calls.len() / call_list::ROW, answers);
     match checked {
-        Ran::Done(n) => Ran::Done(n),
-        Ran::Refused(x) => {
+        Ok(n) => Ok(n),
+        Err(x) => {
             if files::is_map_file(file) {
-                Ran::Refused(x)
+                Err(x)
             } else {
-                Ran::Refused(Refusal::BadMap)
+                Err(Refusal::BadMap)
             }
         }
     }
@@ -121,8 +117,8 @@ fn check_opened(
 // A run from a file: how many rows were carried out, or why none was; the bytes written; the tally at the end.
 #[derive(Drop)]
 pub struct OpenedRun {
-    pub ran: Ran,
-    pub written: Written,
+    pub ran: Result<usize, Refusal>,
+    pub written: Result<usize, Refusal>,
     pub tally: Tally,
 }
 
@@ -144,17 +140,17 @@ pub fn run_opened(
 {
     let checked = check_opened(file, words, coords, fold, set, calls, answers);
     match checked {
-        Ran::Refused(x) => not_opened(x),
-        Ran::Done(n) => {
+        Err(x) => not_opened(x),
+        Ok(n) => {
             let opened = files::open_map(file, words, coords, fold);
             match opened {
-                Opened::Refused(x) => not_opened(x),
-                Opened::Done(t) => {
+                Err(x) => not_opened(x),
+                Ok(t) => {
                     let tally = run_rows(
                         words, coords, fold, t, set, calls, lists, reals, answers, n,
                     );
                     OpenedRun {
-                        ran: Ran::Done(n),
+                        ran: Ok(n),
                         written: files::write_changes(fold, buffer),
                         tally,
                     }
@@ -166,11 +162,11 @@ pub fn run_opened(
 
 // A run that was refused wrote nothing.
 fn not_opened(x: Refusal) -> OpenedRun
-    ensures { (result.ran ≡ Ran.Refused x) × (result.tally ≡ no_tally) × (result.written ≡ Written.Refused x) }
+    ensures { (result.ran ≡ Err x) × (result.tally ≡ no_tally) × (result.written ≡ Err x) }
 {
     OpenedRun {
-        ran: Ran::Refused(x),
-        written: Written::Refused(x),
+        ran: Err(x),
+        written: Err(x),
         tally: Tally {
             created: 0,
             modified: 0,

@@ -1,4 +1,5 @@
 -- A new signal's lamps: where the standard ones stand, and what is stored.
+use Rattle.std.specs.Prelude.{None, Option, Some}
 use Prim.Native.Nat.{ℕ, zero, suc, ◌+◌, ◌*◌, ◌/◌, ◌%◌, ◌≤◌, ◌<◌}
 use native.Mathlib.Omega.{arith}
 use mathlib.Core.Path.{◌≡◌, sym, ap, ◌∙◌}
@@ -10,10 +11,7 @@ use Rattle.rows.specs.Lists.{or_default, list_to}
 use Rattle.rows.proofs.Bools.{clash}
 use Rattle.rows.proofs.Indexed.{length-list_to, list_to_same}
 use Rattle.geometry.specs.declared.Point3.{Point3}
-use Rattle.geometry.specs.declared.MaybePoint3.{MaybePoint3}
-use Rattle.geometry.specs.declared.MaybePoint3.TheVariants.{At, Nothing}
 use Rattle.geometry.specs.Double.{◌⊕◌, ◌⊘◌, whole, half}
-use Rattle.geometry.specs.Maybe.{maybe_point3}
 use Rattle.geometry.specs.Point.{at3, origin}
 use Rattle.geometry.specs.Polyline.{Polyline, point_in, point_at_fraction}
 use Rattle.map.specs.declared.SignalKind.{SignalKind}
@@ -40,12 +38,12 @@ module _ (a : Height) where
   unfolding or_default
   height_given_lem x q = rw q
 
-module _ (xs : Polyline) (height : Float) (i n : ℕ) (m : MaybePoint3) (e : maybe_point3 m ≡ point_at_fraction xs ((whole i ⊕ half) ⊘ whole n)) where
-  pub place_none : m ≡ Nothing → at3 origin.x origin.y (origin.z ⊕ height ⊘ f2) ≡ bulb_place xs height i n
+module _ (xs : Polyline) (height : Float) (i n : ℕ) (m : Option Point3) (e : m ≡ point_at_fraction xs ((whole i ⊕ half) ⊘ whole n)) where
+  pub place_none : m ≡ None → at3 origin.x origin.y (origin.z ⊕ height ⊘ f2) ≡ bulb_place xs height i n
   unfolding bulb_place or_default
   place_none q = rw (← e, q)
 
-  pub place_at_lem : (p : Point3) → m ≡ At p → at3 p.x p.y (p.z ⊕ height ⊘ f2) ≡ bulb_place xs height i n
+  pub place_at_lem : (p : Point3) → m ≡ Some p → at3 p.x p.y (p.z ⊕ height ⊘ f2) ≡ bulb_place xs height i n
   unfolding bulb_place or_default
   place_at_lem p q = rw (← e, q)
 

@@ -12,11 +12,10 @@ ghost use Rattle.signal_row.specs.Row.{no_bulb, bulb_place, BulbMade, BulbGiven,
 
 use centerline::Line;
 use edit::{Height, Look, SignalBulb, SignalRequest};
-use geometry::{MaybePoint3, Point3};
+use geometry::Point3;
+use geometry::vector::Vector;
 use lighting::housings::fraction_of;
-use map::{
-    BulbArrow, BulbColor, SignalKind, bulb_arrow_number, bulb_color_number, signal_kind_number,
-};
+use map::{BulbArrow, BulbColor, SignalKind};
 
 // The words of a signal's row, and its coordinates after the housing: its height and its lamps' positions.
 #[derive(Drop)]
@@ -55,7 +54,7 @@ fn bulb_place(housing: Line, height: f64, i: usize, n: usize) -> Point3
     ensures { result ≡ bulb_place (points_of housing) height i n }
 {
     let t = (i as f64 + 0.5) / n as f64;
-    let MaybePoint3::At(p) = fraction_of(housing, t) else {
+    let Some(p) = fraction_of(housing, t) else {
         return Point3 {
             x: 0.0,
             y: 0.0,
@@ -192,11 +191,9 @@ pub fn bulbs_of(q: SignalRequest, housing: Line, lamps: &[f64]) -> Bulbs
 fn bulb_numbers(b: SignalBulb) -> BulbNumbers
     ensures { BulbWords b result }
 {
-    let c = b.color;
-    let a = b.arrow;
     BulbNumbers {
-        color: bulb_color_number(c),
-        arrow: bulb_arrow_number(a),
+        color: b.color.number(),
+        arrow: b.arrow.number(),
     }
 }
 
@@ -229,7 +226,7 @@ pub fn signal_row(number: u64, q: SignalRequest, points: usize, bulbs: Bulbs) ->
     let b = bulb_numbers(b1);
     let c = bulb_numbers(b2);
     let d = bulb_numbers(b3);
-    let k = signal_kind_number(kind);
+    let k = kind.number();
     let n = points as u64;
     SignalRow {
         words: [
@@ -265,7 +262,7 @@ pub fn bulbs_on_map(b: Bulbs) -> bool
         }
         let lamp = all[i];
         let p = lamp.position;
-        if !geometry::point::on_map(p) {
+        if !p.on_map() {
             return false;
         }
         i += 1;

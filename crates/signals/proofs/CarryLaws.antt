@@ -2,7 +2,6 @@
 use Prim.Native.Nat.{◌-◌, ℕ, ◌+◌, ◌^◌, ◌≤◌, ◌<◌, max}
 use mathlib.Core.Path.{◌≡◌, refl, sym, ap, ◌∙◌, subst}
 use mathlib.Core.Bool.{Bool, true, false, not, ◌&&◌, cond}
-use mathlib.Core.Option.{Option, none, some}
 use mathlib.Core.List.{List, []}
 use native.Mathlib.Omega.{arith}
 use borrow.Author.Tests.{leb-true, leb-false, ltb-true}
@@ -15,7 +14,7 @@ use Rattle.rows.proofs.Bools.{parts}
 use Rattle.centerline.specs.Line.{points_of}
 use Rattle.store.specs.Layout.{count_of, next_of, row_of}
 use Rattle.row_tests.specs.Flat.{all_points}
-use Rattle.map.specs.declared.Found.TheVariants.{At}
+use Rattle.std.specs.Prelude.{Some, Option, None, Err, Ok, Result}
 use Rattle.map.specs.Record.{Map}
 use Rattle.map.specs.Tables.{map_of, is_map_tables}
 use Rattle.map.proofs.SoundLaws.{sound}
@@ -26,11 +25,7 @@ use Rattle.changes.specs.Layout.{change_set_of}
 use Rattle.changes.specs.Running.{fold_fits}
 use Rattle.place.specs.Readable.{ReadableWords}
 use Rattle.place.proofs.Sound.{readable}
-use Rattle.placing.specs.declared.Checked.{Checked}
-use Rattle.placing.specs.declared.Checked.TheVariants as k
 use Rattle.placing.specs.Answers.{checked}
-use Rattle.edit.specs.declared.Called.{Called}
-use Rattle.edit.specs.declared.Called.TheVariants as c
 use Rattle.edit.specs.declared.SignalRequest.{SignalRequest}
 use Rattle.edit.specs.Edit.{Draft}
 use Rattle.edit.specs.Lent.{Lent, CallLeft}
@@ -49,6 +44,7 @@ use Rattle.light_room.specs.Room.{counts_fit, room_for, signal_draft, SignalRead
 use Rattle.light_room.proofs.PlanLaws.{its_signals, at_index, joined-all}
 use Rattle.signals.specs.Signal.{LightSettles, AsksToStore, StoredAs}
 use Rattle.signals.proofs.SignalLaws.{map_is, next_is, id_is, fits_alike, group_below}
+use Rattle.place.specs.declared.SectionNames.{SectionNames}
 
 -- ---- what a plan that is ready gives
 
@@ -66,7 +62,7 @@ module _ (ws : List ℕ) (cs : List Float) (q : SignalRequest) (lamps : List Flo
   late_is : p.light.late ≡ late_for (next_of ws) p.plan a.group
   late_is = ap (λ (l : Light). l.late) ready.numbers.answer
 
-  rule_is : (g : ℕ) → a.group ≡ some g → p.light.rule ≡ g
+  rule_is : (g : ℕ) → a.group ≡ Some g → p.light.rule ≡ g
   rule_is g e = ap (λ (l : Light). l.rule) ready.numbers.answer ∙ ap (rule_number (max 1 (next_of ws)) (late_for (next_of ws) p.plan a.group) (line_for p.plan (max 1 (next_of ws))).drawn) e
 
   abbrev tests : Bool
@@ -98,17 +94,17 @@ module _ (ws : List ℕ) (cs : List Float) (q : SignalRequest) (lamps : List Flo
   lists_fit = let r = room in search parts
 
   -- the group's row has room
-  module _ (g : ℕ) (e : a.group ≡ some g) where
+  module _ (g : ℕ) (e : a.group ≡ Some g) where
     j : Joinable (map_of ws cs) g
     j = ready.group g e
 
     joined : p.light.joins ≡ true
     joined = joins_is ∙ ap joins e
 
-    there : (i : ℕ) → lookup ws 5 g ≡ At i → lookup ws 5 p.light.rule ≡ At i
+    there : (i : ℕ) → lookup ws 5 g ≡ Some i → lookup ws 5 p.light.rule ≡ Some i
     there i f = ap (lookup ws 5) (rule_is g e) ∙ f
 
-    both_fit : (i : ℕ) → lookup ws 5 g ≡ At i → (ltb (get_or (row_of ws 5 i) 41 0) 16 && leb p.joined.count 16) ≡ true
+    both_fit : (i : ℕ) → lookup ws 5 g ≡ Some i → (ltb (get_or (row_of ws 5 i) 41 0) 16 && leb p.joined.count 16) ≡ true
     both_fit i f = sym (ready.tested.fit.group joined i (there i f)) ∙ lists_fit
 
     lanes_few : p.joined.count ≤ 16
@@ -124,8 +120,8 @@ module _ (ws : List ℕ) (cs : List Float) (q : SignalRequest) (lamps : List Flo
     }
 
   group_asks : (o : Option ℕ) → a.group ≡ o → p.light.joins ≡ true → GroupAsks (map_of ws cs) p.light.rule a.lanes p.joined
-  group_asks none e h = absurd (let z : ◌≡◌ {A = Bool} true false = sym h ∙ joins_is ∙ ap joins e in let y : ◌≡◌ {A = ℕ} 0 1 = cc in omega arith)
-  group_asks (some g) e h = subst (λ (x : ℕ). GroupAsks (map_of ws cs) x a.lanes p.joined) (sym (rule_is g e)) (group_room g e)
+  group_asks None e h = absurd (let z : ◌≡◌ {A = Bool} true false = sym h ∙ joins_is ∙ ap joins e in let y : ◌≡◌ {A = ℕ} 0 1 = cc in omega arith)
+  group_asks (Some g) e h = subst (λ (x : ℕ). GroupAsks (map_of ws cs) x a.lanes p.joined) (sym (rule_is g e)) (group_room g e)
 
   -- with numbers to spare
   module _ (lf : p.light.late ≡ false) where
@@ -136,12 +132,12 @@ module _ (ws : List ℕ) (cs : List Float) (q : SignalRequest) (lamps : List Flo
     light_is = ready.numbers.answer ∙ ap (λ (b : Bool). numbers_for b (next_of ws) p.plan a.group) not_spent
 
     numbers_left : (o : Option ℕ) → a.group ≡ o → max 1 (next_of ws) + one_if p.light.drawn + one_if (not p.light.joins) < 2 ^ 64 - 1
-    numbers_left none e =
-        let h : late_for (next_of ws) p.plan none ≡ false = ap (late_for (next_of ws) p.plan) (sym e) ∙ not_spent in
+    numbers_left None e =
+        let h : late_for (next_of ws) p.plan None ≡ false = ap (late_for (next_of ws) p.plan) (sym e) ∙ not_spent in
         let w = leb-false (2 ^ 64) (max 1 (next_of ws) + (one_if (line_for p.plan (max 1 (next_of ws))).drawn + 2)) h in
         omega (arith, w, ap one_if drawn_is, ap (λ (b : Bool). one_if (not b)) (joins_is ∙ ap joins e))
-    numbers_left (some g) e =
-        let h : late_for (next_of ws) p.plan (some g) ≡ false = ap (late_for (next_of ws) p.plan) (sym e) ∙ not_spent in
+    numbers_left (Some g) e =
+        let h : late_for (next_of ws) p.plan (Some g) ≡ false = ap (late_for (next_of ws) p.plan) (sym e) ∙ not_spent in
         let w = leb-false (2 ^ 64) (max 1 (next_of ws) + (one_if (line_for p.plan (max 1 (next_of ws))).drawn + 1)) h in
         omega (arith, w, ap one_if drawn_is, ap (λ (b : Bool). one_if (not b)) (joins_is ∙ ap joins e))
 
@@ -183,7 +179,7 @@ module _ (ws : List ℕ) (cs : List Float) (f : List ℕ) (t : Tally) (s : List 
       unfolding new_traffic_signal
       set_asks = ((readable ws cs known.tables).words, ready.lanes)
 
-      module _ (r : Checked) (h : LightSettles ws f lanes p.light p.clamped p.synthesized r) where
+      module _ (r : Result (Unit {0}) Refusal) (h : LightSettles ws f lanes p.light p.clamped p.synthesized r) where
         abbrev tried : ChangeSet
         tried = light_set p.light p.clamped p.synthesized lanes (map_of ws cs).rules
 
@@ -205,10 +201,10 @@ module _ (ws : List ℕ) (cs : List Float) (f : List ℕ) (t : Tally) (s : List 
             (λ g e. group_below (map_of ws cs) known.sound.map (change_set_of f) known.below p.plan p.clamped p.synthesized a.lanes g (ready.group g e)) (late_for (next_of ws) p.plan a.group)
             ∙ ap (λ (x : ChangeSet). fold_fits (fold_step (change_set_of f) (normalize x))) (sym draft_set_is)
 
-        pub out_refused : (x : Refusal) → r ≡ k.Refused x → (b : Called) (u : Tally) → (b ≡ c.Refused x) × (u ≡ t) → CallEnds lent draft b (record { words = ws; coords = cs; fold = f; tally = u; set = s })
+        pub out_refused : (x : Refusal) → r ≡ Err x → (b : Result (ℕ × Option SectionNames) Refusal) (u : Tally) → (b ≡ Err x) × (u ≡ t) → CallEnds lent draft b (record { words = ws; coords = cs; fold = f; tally = u; set = s })
         out_refused = ends_refused lent fine draft tried p.light.late late_next alike r (h.settles cs)
 
-        module _ (e : r ≡ k.Fine) where
+        module _ (e : r ≡ (Ok tt)) where
           in_time : p.light.late ≡ false
           in_time = not_late lent fine draft tried p.light.late late_next alike r (h.settles cs) e
 
@@ -237,25 +233,25 @@ module _ (ws : List ℕ) (cs : List Float) (f : List ℕ) (t : Tally) (s : List 
             taken = takes lent fine draft tried p.light.late late_next alike r (h.settles cs) e t0 same_set
 
             pub out_done : (f' t1 : List ℕ) → TakenIn f t0 f' t1 → (ws' : List ℕ) (cs' : List Float) (u : Tally) → StoredAs ws cs lanes q p ws' cs' → u ≡ tally_of (change_set_of f')
-                → CallEnds lent draft (c.Done p.light.signal p.ends) (record { words = ws'; coords = cs'; fold = f'; tally = u; set = t1 })
+                → CallEnds lent draft (Ok (p.light.signal, p.ends)) (record { words = ws'; coords = cs'; fold = f'; tally = u; set = t1 })
             out_done f' t1 w ws' cs' u st eu = ends_done lent fine draft tried p.light.late late_next alike r (h.settles cs) e t0 same_set f' t1 w ws' cs' u p.light.signal p.ends (map_stored ws' cs' st) eu id_stored ready.ends
 
   -- ---- the whole call
 
-  module _ (q : SignalRequest) (lamps : List Float) (a : NewTrafficSignal) (r0 : Checked) (h0 : checked r0 ≡ lent_checks lent) where
-    pub lent_turned_down : (x : Refusal) → r0 ≡ k.Refused x → (r : Called) (u : Tally) → (r ≡ c.Refused x) × (u ≡ t) → CallLeft (add_traffic_signal a) lent r (record { words = ws; coords = cs; fold = f; tally = u; set = s })
+  module _ (q : SignalRequest) (lamps : List Float) (a : NewTrafficSignal) (r0 : Result (Unit {0}) Refusal) (h0 : checked r0 ≡ lent_checks lent) where
+    pub lent_turned_down : (x : Refusal) → r0 ≡ Err x → (r : Result (ℕ × Option SectionNames) Refusal) (u : Tally) → (r ≡ Err x) × (u ≡ t) → CallLeft (add_traffic_signal a) lent r (record { words = ws; coords = cs; fold = f; tally = u; set = s })
     unfolding add_traffic_signal
     lent_turned_down x e r u g = call_refused (light_edit a) lent x (lent_refused (light_edit a) lent x (sym h0 ∙ ap checked e)) f refl r u g
 
-    module _ (e : r0 ≡ k.Fine) where
+    module _ (e : r0 ≡ (Ok tt)) where
       pub is_fine : lent_checks lent ≡ done tt
       is_fine = sym h0 ∙ ap checked e
 
       module _ (p : SignalPlan) (hp : SignalPlanned ws cs q lamps a p) where
-        pub plan_turned_down : (x : Refusal) → p.checked ≡ k.Refused x → (r : Called) (u : Tally) → (r ≡ c.Refused x) × (u ≡ t) → CallLeft (add_traffic_signal a) lent r (record { words = ws; coords = cs; fold = f; tally = u; set = s })
+        pub plan_turned_down : (x : Refusal) → p.checked ≡ Err x → (r : Result (ℕ × Option SectionNames) Refusal) (u : Tally) → (r ≡ Err x) × (u ≡ t) → CallLeft (add_traffic_signal a) lent r (record { words = ws; coords = cs; fold = f; tally = u; set = s })
         unfolding add_traffic_signal
         plan_turned_down x d r u g = call_refused (light_edit a) lent x (plan_refused (light_edit a) lent is_fine x (hp.refused x d)) f refl r u g
 
-        pub is_left : (d : p.checked ≡ k.Fine) (r : Called) (new : Lent) → CallEnds lent (signal_draft a (map_of ws cs) p) r new → CallLeft (add_traffic_signal a) lent r new
+        pub is_left : (d : p.checked ≡ (Ok tt)) (r : Result (ℕ × Option SectionNames) Refusal) (new : Lent) → CallEnds lent (signal_draft a (map_of ws cs) p) r new → CallLeft (add_traffic_signal a) lent r new
         unfolding add_traffic_signal
         is_left d r new h = h.left (light_edit a) (hp.ready d).answer

@@ -2,7 +2,7 @@
 use Prim.Native.Nat.{ℕ, suc, ◌+◌, ◌≤◌, max}
 use mathlib.Core.Path.{◌≡◌, refl, sym, ap, ◌∙◌, subst}
 use mathlib.Core.Bool.{Bool, true, false, not, cond}
-use mathlib.Core.Option.{Option, none, some}
+use Rattle.std.specs.Prelude.{Option, None, Some}
 use mathlib.Core.List.{List, [], ◌∷◌, ◌++◌}
 use native.Mathlib.Nat.{max-eq_right, le-max_right}
 use native.Mathlib.Omega.{arith}
@@ -26,7 +26,6 @@ use Rattle.map.specs.Updates.{signal_of_parts}
 use Rattle.changes.specs.ChangeSet.{ChangeSet, normalize, fold_step}
 use Rattle.changes.specs.ChangeFile.{is_before, rise_after, rising_refs}
 use Rattle.changes.specs.Running.{all_below, fold_fits}
-use Rattle.place.specs.declared.MaybeEnds.{MaybeEnds}
 use Rattle.place.proofs.LineLaws.{line_part_lem}
 use Rattle.place.proofs.Sound.{readable}
 use Rattle.edit.specs.declared.SignalRequest.{SignalRequest}
@@ -46,6 +45,7 @@ use Rattle.light_store.specs.Storing.{coords_in, StoreAsks, group_in, light_map,
 use Rattle.light_room.specs.declared.SignalPlan.{SignalPlan}
 use Rattle.light_room.proofs.PlanLaws.{stored_light}
 use Rattle.signals.specs.Signal.{AsksToStore, StoredAs}
+use Rattle.place.specs.declared.SectionNames.{SectionNames}
 
 -- ---- stored
 
@@ -91,21 +91,21 @@ module _ (m : Map) (lanes : List ℕ) (xs : Polyline) (s : Signal) (n : ℕ) (li
   end o b g = with_light (with_signal (cond b (with_line (lifted_first m o lanes) xs) (lifted_first m o lanes)) s) lanes n line g
 
   -- the next number, with a rule of its own and without
-  next_new : (o : Option ℕ) (b : Bool) → (end o b none).next ≡ fresh m + (one_if b + 2)
+  next_new : (o : Option ℕ) (b : Bool) → (end o b None).next ≡ fresh m + (one_if b + 2)
   unfolding lifted_first with_light
-  next_new none true = rw (up (fresh m), up (suc (fresh m))) (omega arith)
-  next_new none false = rw (up (fresh m)) (omega arith)
-  next_new (some t) true = rw (up (fresh m), up (suc (fresh m))) (omega arith)
-  next_new (some t) false = rw (up (fresh m)) (omega arith)
+  next_new None true = rw (up (fresh m), up (suc (fresh m))) (omega arith)
+  next_new None false = rw (up (fresh m)) (omega arith)
+  next_new (Some t) true = rw (up (fresh m), up (suc (fresh m))) (omega arith)
+  next_new (Some t) false = rw (up (fresh m)) (omega arith)
 
-  next_joined : (o : Option ℕ) (b : Bool) (r : Rule) → (end o b (some r)).next ≡ fresh m + (one_if b + 1)
+  next_joined : (o : Option ℕ) (b : Bool) (r : Rule) → (end o b (Some r)).next ≡ fresh m + (one_if b + 1)
   unfolding lifted_first with_light
-  next_joined none true r = rw (up (fresh m)) (omega arith)
-  next_joined none false r = omega arith
-  next_joined (some t) true r = rw (up (fresh m)) (omega arith)
-  next_joined (some t) false r = omega arith
+  next_joined None true r = rw (up (fresh m)) (omega arith)
+  next_joined None false r = omega arith
+  next_joined (Some t) true r = rw (up (fresh m)) (omega arith)
+  next_joined (Some t) false r = omega arith
 
-module _ (a : NewTrafficSignal) (m : Map) (ok : is_map m ≡ true) (plan : LinePlan) (line housing : Line) (clamped made : Bool) (es : MaybeEnds) (f : (g : ℕ) → a.group ≡ some g → Joinable m g) where
+module _ (a : NewTrafficSignal) (m : Map) (ok : is_map m ≡ true) (plan : LinePlan) (line housing : Line) (clamped made : Bool) (es : Option SectionNames) (f : (g : ℕ) → a.group ≡ Some g → Joinable m g) where
   abbrev planned_as_lem : Planned
   planned_as_lem = record { plan = plan_of plan (drawn_of (get_or a.lanes 0 0) line clamped es); housing = housing_of housing made }
 
@@ -122,8 +122,8 @@ module _ (a : NewTrafficSignal) (m : Map) (ok : is_map m ≡ true) (plan : LineP
       go : (o : Option ℕ) → a.group ≡ o
           → (end m a.lanes (points_of line) (new_signal a right.signal (points_of housing)) right.signal (line_in right) (line_in right) right.drawn (group_in m (numbers_for false m.next plan o))).next
           ≡ fresh m + spent (line_for plan (fresh m)).drawn o
-      go none e = next_new m a.lanes (points_of line) (new_signal a right.signal (points_of housing)) right.signal (line_in right) (line_in right) right.drawn
-      go (some g) e =
+      go None e = next_new m a.lanes (points_of line) (new_signal a right.signal (points_of housing)) right.signal (line_in right) (line_in right) right.drawn
+      go (Some g) e =
           ap (λ (h : Option Rule). (end m a.lanes (points_of line) (new_signal a right.signal (points_of housing)) right.signal (line_in right) (line_in right) right.drawn h).next) (f g e).found
           ∙ next_joined m a.lanes (points_of line) (new_signal a right.signal (points_of housing)) right.signal (line_in right) (line_in right) right.drawn (f g e).rule
 
@@ -162,8 +162,8 @@ module _ (n : ℕ) where
   notes_below : (f : Rule → Lift → List EntityRef) → ((r : Rule) (t : Lift) → ltb r.num n ≡ true → every below (f r t) ≡ true) → (o : Option ℕ) (lanes : List ℕ) (rs : List Rule)
       → every (λ (r : Rule). ltb r.num n) rs ≡ true → every below (notes f o lanes rs) ≡ true
   unfolding every
-  notes_below f h none lanes rs e = refl
-  notes_below f h (some s) lanes rs e = every_joined below (λ r. f r (lift s lanes r)) (λ (r : Rule). ltb r.num n) rs (λ r q. h r (lift s lanes r) q) e
+  notes_below f h None lanes rs e = refl
+  notes_below f h (Some s) lanes rs e = every_joined below (λ r. f r (lift s lanes r)) (λ (r : Rule). ltb r.num n) rs (λ r q. h r (lift s lanes r) q) e
 
 -- a line where it is drawn, the signal, and a rule where it is new, from x, y and z on
 made_of : Bool → Bool → ℕ → ℕ → ℕ → List EntityRef
@@ -193,9 +193,9 @@ from_first n true k = le-max_right 1 n
 from_first n false k = omega (arith, le-max_right 1 n)
 
 from_rule : (n : ℕ) (late drawn : Bool) (o : Option ℕ) → not (joins o) ≡ true → n ≤ rule_number (max 1 n) late drawn o
-from_rule n true drawn none e = le-max_right 1 n
-from_rule n false drawn none e = omega (arith, le-max_right 1 n)
-from_rule n late drawn (some g) e = absurd (let z : ◌≡◌ {A = Bool} false true = e in let y : ◌≡◌ {A = ℕ} 0 1 = cc in omega arith)
+from_rule n true drawn None e = le-max_right 1 n
+from_rule n false drawn None e = omega (arith, le-max_right 1 n)
+from_rule n late drawn (Some g) e = absurd (let z : ◌≡◌ {A = Bool} false true = e in let y : ◌≡◌ {A = ℕ} 0 1 = cc in omega arith)
 
 module _ (m : Map) (ok : is_map m ≡ true) (f : ChangeSet) (fb : FoldBelow m.next f) (plan : LinePlan) (clamped made : Bool) (lanes : List ℕ) where
   abbrev set_of : Option ℕ → Bool → ChangeSet
@@ -213,8 +213,8 @@ module _ (m : Map) (ok : is_map m ≡ true) (f : ChangeSet) (fb : FoldBelow m.ne
 
   same_modified : (o : Option ℕ) → (set_of o true).modified ≡ (set_of o false).modified
   unfolding light_set
-  same_modified none = refl
-  same_modified (some g) = refl
+  same_modified None = refl
+  same_modified (Some g) = refl
 
   same_deleted : (o : Option ℕ) → (set_of o true).deleted ≡ (set_of o false).deleted
   unfolding light_set
@@ -227,13 +227,13 @@ module _ (m : Map) (ok : is_map m ≡ true) (f : ChangeSet) (fb : FoldBelow m.ne
   unfolding light_set all_below
   deleted_below o = below_all m.next _ (notes_below m.next gone_ref (gone_below m.next) (line_in (numbers_for true m.next plan o)) lanes m.rules rules_below)
 
-  modified_below : (o : Option ℕ) → ((g : ℕ) → o ≡ some g → ltb g m.next ≡ true) → Below m.next (set_of o true).modified
+  modified_below : (o : Option ℕ) → ((g : ℕ) → o ≡ Some g → ltb g m.next ≡ true) → Below m.next (set_of o true).modified
   unfolding light_set all_below every
-  modified_below none h = below_all m.next _ (notes_below m.next eased_ref (eased_below m.next) (line_in (numbers_for true m.next plan none)) lanes m.rules rules_below)
-  modified_below (some g) h =
-      below_all m.next _ (and_i (ltb g m.next) _ (h g refl) (notes_below m.next eased_ref (eased_below m.next) (line_in (numbers_for true m.next plan (some g))) lanes m.rules rules_below))
+  modified_below None h = below_all m.next _ (notes_below m.next eased_ref (eased_below m.next) (line_in (numbers_for true m.next plan None)) lanes m.rules rules_below)
+  modified_below (Some g) h =
+      below_all m.next _ (and_i (ltb g m.next) _ (h g refl) (notes_below m.next eased_ref (eased_below m.next) (line_in (numbers_for true m.next plan (Some g))) lanes m.rules rules_below))
 
-  pub fits_alike : (o : Option ℕ) → ((g : ℕ) → o ≡ some g → ltb g m.next ≡ true) → (late : Bool) → fold_fits (fold_step f (normalize (set_of o late))) ≡ fold_fits (fold_step f (normalize (set_of o false)))
+  pub fits_alike : (o : Option ℕ) → ((g : ℕ) → o ≡ Some g → ltb g m.next ≡ true) → (late : Bool) → fold_fits (fold_step f (normalize (set_of o late))) ≡ fold_fits (fold_step f (normalize (set_of o false)))
   fits_alike o h false = refl
   fits_alike o h true =
       fresh_fits m.next f fb (set_of o true) (set_of o false) (same_modified o) (same_deleted o) (modified_below o h) (deleted_below o) (new_of o true) (new_of o false) (count_of o)

@@ -1,5 +1,5 @@
 -- What settling a planned light answers; what storing it asks for and leaves.
-use Rattle.std.specs.Prelude.{◌-◌, ℕ, ◌+◌, ◌^◌, ◌≤◌, ◌<◌, max, ◌≡◌, Bool, true, false, not, List, Float, length}
+use Rattle.std.specs.Prelude.{◌-◌, ℕ, ◌+◌, ◌^◌, ◌≤◌, ◌<◌, max, ◌≡◌, Bool, true, false, not, List, Float, length, Result}
 use Rattle.rows.specs.Table.{rising}
 use Rattle.centerline.specs.Line.{points_of}
 use Rattle.store.specs.Layout.{count_of, next_of}
@@ -7,7 +7,6 @@ use Rattle.map.specs.Record.{Rule}
 use Rattle.map.specs.Tables.{map_of}
 use Rattle.place.specs.Readable.{Readable}
 use Rattle.place.specs.Values.{Roomy}
-use Rattle.placing.specs.declared.Checked.{Checked}
 use Rattle.edit.specs.declared.SignalRequest.{SignalRequest}
 use Rattle.edit.specs.Light.{new_signal}
 use Rattle.edit.specs.Request.{new_traffic_signal}
@@ -17,9 +16,10 @@ use Rattle.light_draft.specs.declared.Light.{Light}
 use Rattle.light_draft.specs.Drafting.{one_if, line_in, light_set, lifted_first}
 use Rattle.light_store.specs.Storing.{GroupAsks, group_in, light_map}
 use Rattle.light_room.specs.declared.SignalPlan.{SignalPlan}
+use Rattle.refusal.specs.declared.Refusal.{Refusal}
 
 -- r answers as settling the light's set with the fold f does
-pub record LightSettles (ws f lanes : List ℕ) (l : Light) (clamped made : Bool) (r : Checked) : Type 0 where
+pub record LightSettles (ws f lanes : List ℕ) (l : Light) (clamped made : Bool) (r : Result (Unit {0}) Refusal) : Type 0 where
   pub settles : (cs : List Float) → Settles f (light_set l clamped made lanes (map_of ws cs).rules) l.late r
 
 pub record AsksToStore (ws : List ℕ) (cs : List Float) (lanes : List ℕ) (q : SignalRequest) (p : SignalPlan) : Type 0 where

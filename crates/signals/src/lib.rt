@@ -14,11 +14,11 @@ ghost use Rattle.light_room.specs.Room.{signal_draft, SignalReady};
 ghost use Rattle.signals.specs.Signal.{LightSettles, StoredAs, AsksToStore};
 
 use changes::Tally;
-use edit::{Answered, Called, SignalRequest};
+use edit::{Answered, SignalRequest};
 use light_draft::{Light, draft_set};
 use light_room::{SignalPlan, signal_plan};
 use light_store::store_light;
-use placing::Checked;
+use refusal::Refusal;
 use signal_row::signal_row;
 
 // What is planned, on the map: the signal's row is made of its number, its housing and its lamps.
@@ -43,12 +43,12 @@ fn check_fold(
     l: Light,
     clamped: bool,
     made: bool,
-) -> Checked
+) -> Result<(), Refusal>
     requires { ReadableWords words.now × (0 < length lanes.now) × (lists_ok_in fold.now ≡ true) }
     ensures { LightSettles words.now fold.now lanes.now l clamped made result }
 {
     if finishing::fold_room(fold, l.late) {
-        return Checked::Fine;
+        return Ok(());
     }
     let mut draft = [0u64; 3556];
     draft_set(words, lanes, l, clamped, made, &mut draft);
@@ -75,14 +75,14 @@ fn carry_out(
     let l = p.light;
     let ends = p.ends;
     let settled = check_fold(words, fold, lanes, l, p.clamped, p.synthesized);
-    if let Checked::Refused(r) = settled {
+    if let Err(r) = settled {
         return finishing::refused(r, tally);
     }
     draft_set(words, lanes, l, p.clamped, p.synthesized, set);
     finishing::take_in(fold, set);
     store(words, coords, lanes, q, p);
     Answered {
-        called: Called::Done(l.signal, ends),
+        called: Ok((l.signal, ends)),
         tally: building::tally_of(fold),
     }
 }
@@ -104,12 +104,12 @@ pub fn add_traffic_signal(
     ensures { CallLeft (add_traffic_signal (new_traffic_signal lanes.now q points.now housing.now lamps.now)) (record { words = words.old; coords = coords.old; fold = fold.old; tally = tally; set = set.old }) result.called (record { words = words.new; coords = coords.new; fold = fold.new; tally = result.tally; set = set.new }) }
 {
     let lent = finishing::check_lent(words, coords, fold, tally, set);
-    if let Checked::Refused(r) = lent {
+    if let Err(r) = lent {
         return finishing::refused(r, tally);
     }
     let p = signal_plan(words, coords, lanes, q, points, housing, lamps);
     let checked = p.checked;
-    if let Checked::Refused(r) = checked {
+    if let Err(r) = checked {
         return finishing::refused(r, tally);
     }
     carry_out(

@@ -1,4 +1,5 @@
 -- A plan carried out, and the whole call. Assumes nothing.
+use Rattle.std.specs.Prelude.{Option, Err, Ok, Result}
 use Prim.Native.Nat.{ℕ, suc, ◌*◌, ◌^◌, ◌≤◌, ◌<◌, max}
 use mathlib.Core.Path.{◌≡◌, refl, sym, ap, ◌∙◌}
 use mathlib.Core.Bool.{Bool, true}
@@ -22,15 +23,10 @@ use Rattle.changes.specs.ChangeSet.{ChangeSet, tally_of, normalize, fold_step}
 use Rattle.changes.specs.Layout.{change_set_of}
 use Rattle.changes.specs.Running.{fold_fits}
 use Rattle.place.specs.Place.{Placed}
-use Rattle.place.specs.declared.MaybeEnds.{MaybeEnds}
 use Rattle.place.specs.Values.{maybe_ends}
 use Rattle.place.proofs.LineLaws.{line_part_lem}
-use Rattle.placing.specs.declared.Checked.{Checked}
-use Rattle.placing.specs.declared.Checked.TheVariants as k
 use Rattle.placing.specs.declared.PlacedLine.{PlacedLine}
 use Rattle.placing.specs.Answers.{checked}
-use Rattle.edit.specs.declared.Called.{Called}
-use Rattle.edit.specs.declared.Called.TheVariants as c
 use Rattle.edit.specs.declared.StopRule.{StopRule}
 use Rattle.edit.specs.Edit.{Draft}
 use Rattle.edit.specs.Lent.{Lent, CallLeft}
@@ -41,6 +37,7 @@ use Rattle.finishing.proofs.EndLaws.{ends_refused, not_late, takes, ends_done}
 use Rattle.stop_lines.specs.Stop.{placed_draft, clamped_by, line_changes, SetDrafted, LineSettles, next_after, ruled, LinePlanned}
 use Rattle.stop_lines.proofs.RoomLaws.{within_room, HasRoom, has_room}
 use Rattle.stop_lines.proofs.DraftLaws.{draft_changes, draft_next, draft_map, draft_id, draft_ends, exact, fits_alike}
+use Rattle.place.specs.declared.SectionNames.{SectionNames}
 
 module _ (ws : List ℕ) (cs : List Float) (f : List ℕ) (t : Tally) (s : List ℕ) where
   abbrev lent : Lent
@@ -52,14 +49,14 @@ module _ (ws : List ℕ) (cs : List Float) (f : List ℕ) (t : Tally) (s : List 
 
     -- ---- carried out
 
-    module _ (rule : StopRule) (lanes : List ℕ) (pts : List Float) (clamped : Bool) (es : MaybeEnds) where
+    module _ (rule : StopRule) (lanes : List ℕ) (pts : List Float) (clamped : Bool) (es : Option SectionNames) where
       abbrev placed : Placed
       placed = record { points = polyline_of pts; warnings = clamped_by clamped (get_or lanes 0 0); ends = maybe_ends es }
 
       abbrev draft : Draft
       draft = placed_draft rule lanes (map_of ws cs) placed
 
-      module _ (n : ℕ) (en : n ≡ max 1 (next_of ws)) (late : Bool) (el : late ≡ leb (2 ^ 64) (next_after rule n)) (r : Checked) (h : LineSettles f rule n (clamped_by clamped (get_or lanes 0 0)) late r) where
+      module _ (n : ℕ) (en : n ≡ max 1 (next_of ws)) (late : Bool) (el : late ≡ leb (2 ^ 64) (next_after rule n)) (r : Result (Unit {0}) Refusal) (h : LineSettles f rule n (clamped_by clamped (get_or lanes 0 0)) late r) where
         is_fresh : n ≡ fresh (map_of ws cs)
         unfolding map_of
         is_fresh = en
@@ -78,10 +75,10 @@ module _ (ws : List ℕ) (cs : List Float) (f : List ℕ) (t : Tally) (s : List 
             fits_alike (change_set_of f) (map_of ws cs).next n h.second known.below (let a = is_fresh in omega arith) (clamped_by clamped (get_or lanes 0 0)) h.follows.from rule
             ∙ ap (λ (x : ChangeSet). fold_fits (fold_step (change_set_of f) (normalize x))) (sym changes_are)
 
-        pub out_refused : (x : Refusal) → r ≡ k.Refused x → (a : Called) (u : Tally) → (a ≡ c.Refused x) × (u ≡ t) → CallEnds lent draft a (record { words = ws; coords = cs; fold = f; tally = u; set = s })
+        pub out_refused : (x : Refusal) → r ≡ Err x → (a : Result (ℕ × Option SectionNames) Refusal) (u : Tally) → (a ≡ Err x) × (u ≡ t) → CallEnds lent draft a (record { words = ws; coords = cs; fold = f; tally = u; set = s })
         out_refused = ends_refused lent fine draft tried late late_is alike r h.settles
 
-        module _ (q : r ≡ k.Fine) where
+        module _ (q : r ≡ (Ok tt)) where
           pub numbers_left : next_after rule (max 1 (next_of ws)) < 2 ^ 64
           numbers_left = rw (← en) (leb-false (2 ^ 64) (next_after rule n) (sym el ∙ not_late lent fine draft tried late late_is alike r h.settles q))
 
@@ -94,7 +91,7 @@ module _ (ws : List ℕ) (cs : List Float) (f : List ℕ) (t : Tally) (s : List 
 
             pub out_done : (f' t1 : List ℕ) → TakenIn f t0 f' t1 → (ws' : List ℕ) (cs' : List Float) (u : Tally)
                 → map_of ws' cs' ≡ ruled (rule_at rule n) (with_line (map_of ws cs) (polyline_of pts)) lanes → u ≡ tally_of (change_set_of f')
-                → CallEnds lent draft (c.Done n es) (record { words = ws'; coords = cs'; fold = f'; tally = u; set = t1 })
+                → CallEnds lent draft (Ok (n, es)) (record { words = ws'; coords = cs'; fold = f'; tally = u; set = t1 })
             out_done f' t1 w ws' cs' u em eu =
                 ends_done lent fine draft tried late late_is alike r h.settles q t0 same_set f' t1 w ws' cs' u n es
                 (em ∙ ap (λ (i : ℕ). ruled (rule_at rule i) (with_line (map_of ws cs) (polyline_of pts)) lanes) is_fresh ∙ sym (draft_map lanes (map_of ws cs) placed rule)) eu (is_fresh ∙ sym (draft_id lanes (map_of ws cs) placed rule))
@@ -109,23 +106,23 @@ module _ (ws : List ℕ) (cs : List Float) (f : List ℕ) (t : Tally) (s : List 
   -- ---- the whole call
 
   module _ (a : NewStopLine) where
-    module _ (r0 : Checked) (h0 : checked r0 ≡ lent_checks lent) where
-      pub lent_turned_down : (x : Refusal) → r0 ≡ k.Refused x → (r : Called) (u : Tally) → (r ≡ c.Refused x) × (u ≡ t)
+    module _ (r0 : Result (Unit {0}) Refusal) (h0 : checked r0 ≡ lent_checks lent) where
+      pub lent_turned_down : (x : Refusal) → r0 ≡ Err x → (r : Result (ℕ × Option SectionNames) Refusal) (u : Tally) → (r ≡ Err x) × (u ≡ t)
           → CallLeft (add_stop_line a) lent r (record { words = ws; coords = cs; fold = f; tally = u; set = s })
       unfolding add_stop_line
       lent_turned_down x q r u e = call_refused (stop_line_edit a) lent x (lent_refused (stop_line_edit a) lent x (sym h0 ∙ ap checked q)) f refl r u e
 
-      module _ (q : r0 ≡ k.Fine) where
+      module _ (q : r0 ≡ (Ok tt)) where
         pub is_fine : lent_checks lent ≡ done tt
         is_fine = sym h0 ∙ ap checked q
 
         module _ (p : PlacedLine) (hp : LinePlanned ws cs a p) where
-          pub plan_turned_down : (x : Refusal) → p.checked ≡ k.Refused x → (r : Called) (u : Tally) → (r ≡ c.Refused x) × (u ≡ t)
+          pub plan_turned_down : (x : Refusal) → p.checked ≡ Err x → (r : Result (ℕ × Option SectionNames) Refusal) (u : Tally) → (r ≡ Err x) × (u ≡ t)
               → CallLeft (add_stop_line a) lent r (record { words = ws; coords = cs; fold = f; tally = u; set = s })
           unfolding add_stop_line
           plan_turned_down x e r u g = call_refused (stop_line_edit a) lent x (plan_refused (stop_line_edit a) lent is_fine x (sym hp.answer ∙ rw e)) f refl r u g
 
-          module _ (e : p.checked ≡ k.Fine) where
+          module _ (e : p.checked ≡ (Ok tt)) where
             abbrev pts : List Float
             pts = take (p.line.count * 3) p.line.coords
 
@@ -135,7 +132,7 @@ module _ (ws : List ℕ) (cs : List Float) (f : List ℕ) (t : Tally) (s : List 
             pub is_within : within_ceilings (placed_draft a.rule a.lanes (map_of ws cs) (record { points = polyline_of pts; warnings = clamped_by p.clamped (get_or a.lanes 0 0); ends = maybe_ends p.ends })).map ≡ true
             is_within = plan_within (stop_line_edit a) (map_of ws cs) _ is_planned
 
-            pub is_left : (r : Called) (new : Lent)
+            pub is_left : (r : Result (ℕ × Option SectionNames) Refusal) (new : Lent)
                 → CallEnds lent (placed_draft a.rule a.lanes (map_of ws cs) (record { points = polyline_of pts; warnings = clamped_by p.clamped (get_or a.lanes 0 0); ends = maybe_ends p.ends })) r new
                 → CallLeft (add_stop_line a) lent r new
             unfolding add_stop_line

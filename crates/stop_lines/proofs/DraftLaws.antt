@@ -2,7 +2,7 @@
 use Prim.Native.Nat.{ℕ, suc, ◌+◌, ◌^◌, ◌≤◌, ◌<◌, max}
 use mathlib.Core.Path.{◌≡◌, refl, sym, ap, ◌∙◌}
 use mathlib.Core.Bool.{Bool, true, false}
-use mathlib.Core.Option.{none}
+use Rattle.std.specs.Prelude.{None, Ok, Result}
 use mathlib.Core.List.{List, [], ◌∷◌}
 use native.Mathlib.Omega.{arith}
 use lib.Dec.{leb}
@@ -21,12 +21,11 @@ use Rattle.place.specs.Place.{Placed}
 use Rattle.edit.specs.declared.StopRule.{StopRule}
 use Rattle.edit.specs.declared.StopRule.TheVariants.{StopSign, Marking, NoRule}
 use Rattle.edit.specs.StopLine.{rule_at, line_draft}
-use Rattle.placing.specs.declared.Checked.{Checked}
-use Rattle.placing.specs.declared.Checked.TheVariants.{Fine}
 use Rattle.finishing.specs.Finish.{Few, FoldRoom, Settles}
 use Rattle.finishing.proofs.EndLaws.{room_settles}
 use Rattle.finishing.proofs.FreshLaws.{New, new_all, FoldBelow, fresh_fits}
 use Rattle.stop_lines.specs.Stop.{placed_draft, clamped_by, line_changes, Following, Holds, SetDrafted, LineSettles, next_after, ruled}
+use Rattle.refusal.specs.declared.Refusal.{Refusal}
 
 -- ---- numbers
 
@@ -106,14 +105,14 @@ few_entries Marking n x w = record { created = omega arith; modified = omega ari
 few_entries NoRule n x w = record { created = omega arith; modified = omega arith; deleted = omega arith }
 
 module _ (f : List ℕ) (rule : StopRule) (n : ℕ) (w : List Warning) (late : Bool) where
-  pub fold_takes : (b : Bool) → FoldRoom f late b → b ≡ true → LineSettles f rule n w late Fine
+  pub fold_takes : (b : Bool) → FoldRoom f late b → b ≡ true → LineSettles f rule n w late (Ok tt)
   fold_takes b h q = record {
     second = n + 1;
     follows = record { from = omega arith; next = λ _. refl };
     settles = room_settles f late b h q (line_changes rule n (n + 1) w) (few_entries rule n (n + 1) w);
   }
 
-  pub fold_tried : (d : List ℕ) → SetDrafted rule n w d → (r : Checked) → Settles f (change_set_of d) late r → LineSettles f rule n w late r
+  pub fold_tried : (d : List ℕ) → SetDrafted rule n w d → (r : Result (Unit {0}) Refusal) → Settles f (change_set_of d) late r → LineSettles f rule n w late r
   fold_tried d ht r h = record { second = ht.second; follows = ht.follows; settles = rw ht.set at h }
 
 -- ---- the draft's parts

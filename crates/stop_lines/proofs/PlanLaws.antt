@@ -1,4 +1,5 @@
 -- The plan of a stop line: each refusal, and the draft. Assumes nothing.
+use Rattle.std.specs.Prelude.{Err, Ok, Result}
 use Prim.Native.Nat.{ℕ, ◌*◌, ◌%◌, ◌≤◌}
 use mathlib.Core.Path.{◌≡◌, refl, sym, ap, ◌∙◌}
 use mathlib.Core.Bool.{Bool, true, false, not}
@@ -26,8 +27,6 @@ use Rattle.map.proofs.SoundLaws.{sound}
 use Rattle.place.specs.Place.{Placed, check_lane_list, place_stop_line}
 use Rattle.place.specs.Values.{Roomy, maybe_ends}
 use Rattle.place.proofs.LineLaws.{line_part_lem, part_long}
-use Rattle.placing.specs.declared.Checked.{Checked}
-use Rattle.placing.specs.declared.Checked.TheVariants.{Fine, Refused}
 use Rattle.placing.specs.declared.PlacedLine.{PlacedLine}
 use Rattle.placing.specs.Answers.{checked, placed_answer, RefusedWith, LanesChecked}
 use Rattle.placing.proofs.CheckLaws.{lanes_there}
@@ -100,8 +99,8 @@ edit_is a m = ap (λ (x : Answer Draft). check_lane_list m a.lanes >> x) (go (pl
     go (done p) = ap done (draft_is a m p a.rule)
 
 -- no fine answer is a refusal
-never : {A : Type 0} (k : Checked) (p : Placed) (x : Refusal) → k ≡ Fine → (checked k >> done p) ≡ refused_as x → A
-never k p x e h = let z : (checked Fine >> done p) ≡ refused_as x = sym (ap (λ (y : Checked). checked y >> done p) e) ∙ h in absurd (let y : ◌≡◌ {A = ℕ} 0 1 = cc in omega arith)
+never : {A : Type 0} (k : Result (Unit {0}) Refusal) (p : Placed) (x : Refusal) → k ≡ (Ok tt) → (checked k >> done p) ≡ refused_as x → A
+never k p x e h = let z : (checked (Ok tt) >> done p) ≡ refused_as x = sym (ap (λ (y : Result (Unit {0}) Refusal). checked y >> done p) e) ∙ h in absurd (let y : ◌≡◌ {A = ℕ} 0 1 = cc in omega arith)
 
 module _ (ws : List ℕ) (cs : List Float) (a : NewStopLine) where
   abbrev m : Map
@@ -117,20 +116,20 @@ module _ (ws : List ℕ) (cs : List Float) (a : NewStopLine) where
     lanes = λ q. never p.checked _ x q (h.answer reference);
   }
 
-  module _ (r0 : Checked) (h0 : LanesChecked ws a.lanes r0) where
-    pub lanes_refused : (x : Refusal) → r0 ≡ Refused x → (p : PlacedLine) → RefusedWith x p → LinePlanned ws cs a p
+  module _ (r0 : Result (Unit {0}) Refusal) (h0 : LanesChecked ws a.lanes r0) where
+    pub lanes_refused : (x : Refusal) → r0 ≡ Err x → (p : PlacedLine) → RefusedWith x p → LinePlanned ws cs a p
     unfolding planned
     lanes_refused x e p h = turned_down x p h (rw (edit_is a m, ← h0.answer cs, e))
 
-    module _ (e0 : r0 ≡ Fine) (p : PlacedLine) (hp : placed_answer reference p ≡ place_stop_line m a.lanes a.placement a.points) where
+    module _ (e0 : r0 ≡ (Ok tt)) (p : PlacedLine) (hp : placed_answer reference p ≡ place_stop_line m a.lanes a.placement a.points) where
       placed_edit : stop_line_edit a m ≡ (placed_answer reference p >>= λ q. done (placed_draft a.rule a.lanes m q))
       placed_edit = edit_is a m ∙ rw (← h0.answer cs, e0, ← hp)
 
-      pub place_refused : (x : Refusal) → p.checked ≡ Refused x → (p' : PlacedLine) → RefusedWith x p' → LinePlanned ws cs a p'
+      pub place_refused : (x : Refusal) → p.checked ≡ Err x → (p' : PlacedLine) → RefusedWith x p' → LinePlanned ws cs a p'
       unfolding planned
       place_refused x e p' h = turned_down x p' h (rw (placed_edit, e))
 
-      module _ (ok : is_map_tables ws cs ≡ true) (room : Roomy p.line) (e1 : p.checked ≡ Fine) (r : Checked)
+      module _ (ok : is_map_tables ws cs ≡ true) (room : Roomy p.line) (e1 : p.checked ≡ (Ok tt)) (r : Result (Unit {0}) Refusal)
           (hr : checked r ≡ end_tests a.rule (length a.lanes) (count_of ws 2) (count_of ws 5) (all_points ws) (points_of p.line)) where
         abbrev placed : Placed
         placed = record { points = points_of p.line; warnings = clamped_by p.clamped reference; ends = maybe_ends p.ends }
@@ -154,8 +153,8 @@ module _ (ws : List ℕ) (cs : List Float) (a : NewStopLine) where
             (ap (every point_on_map) (stored_is a.rule)) (within_room ws cs (sound ws cs ok).map placed (points_few p.line room) a.lanes a.rule)
             ∙ ap (λ (x : Answer (Unit {0})). x >> done draft) (sym hr)
 
-        pub end_refused : (x : Refusal) → r ≡ Refused x → (p' : PlacedLine) → RefusedWith x p' → LinePlanned ws cs a p'
+        pub end_refused : (x : Refusal) → r ≡ Err x → (p' : PlacedLine) → RefusedWith x p' → LinePlanned ws cs a p'
         end_refused x e p' h = turned_down x p' h (plan_is ∙ rw e)
 
-        pub all-planned : r ≡ Fine → LinePlanned ws cs a p
+        pub all-planned : r ≡ (Ok tt) → LinePlanned ws cs a p
         all-planned e = record { answer = rw e1 (sym (plan_is ∙ rw e)); room = room; lanes = λ _. lanes_there ws a.lanes (rw e0 at h0) }

@@ -2,7 +2,7 @@
 use Prim.Native.Nat.{ℕ, ◌+◌, ◌-◌, ◌≤◌, ◌<◌}
 use mathlib.Core.Path.{◌≡◌, refl, sym, ap, ◌∙◌}
 use mathlib.Core.Bool.{Bool, true, false, not, ◌&&◌}
-use mathlib.Core.Option.{none, some}
+use Rattle.std.specs.Prelude.{None, Some}
 use mathlib.Core.List.{List, [], ◌∷◌}
 use native.Mathlib.Omega.{arith}
 use lib.Dec.{ltb, leb}
@@ -133,7 +133,7 @@ module _ (m : Map) (ok : is_map m ≡ true) (xs : Polyline) where
 pub map_room : (m : Map) → is_map m ≡ true → (p : Placed) (lanes : List ℕ) (rule : StopRule)
     → within_ceilings (placed_draft rule lanes m p).map ≡ (room_for rule (length lanes) (length m.stop_lines) (length m.rules) (points m) (length p.points) && line_within p.points)
 unfolding placed_draft line_draft rule_at room_for rule_room list_room body_within body_points if_there size_of
-map_room m ok p lanes StopSign = rule_line_room m ok p.points (sign 1 none (some (fresh m))) lanes refl refl
+map_room m ok p lanes StopSign = rule_line_room m ok p.points (sign 1 None (Some (fresh m))) lanes refl refl
 map_room m ok p lanes Marking = rule_line_room m ok p.points (marking (fresh m)) lanes refl refl
 map_room m ok p lanes NoRule = line_room m ok p.points
 

@@ -1,6 +1,5 @@
 -- `add_stop_line` in the steps of its code: the plan, the change set, and what is stored.
-use Rattle.std.specs.Prelude.{ℕ, suc, ◌+◌, ◌^◌, ◌≤◌, ◌<◌, ◌≡◌, Bool, true, false, not, ◌&&◌, cond, List, [], ◌∷◌, ◌++◌, ltb, leb, Float, length, get_or}
-use Rattle.std.proofs.Math.Option.{Option, none, some}
+use Rattle.std.specs.Prelude.{ℕ, suc, ◌+◌, ◌^◌, ◌≤◌, ◌<◌, ◌≡◌, Bool, true, false, not, ◌&&◌, cond, List, [], ◌∷◌, ◌++◌, ltb, leb, Float, length, get_or, Option, None, Some, Ok, Result}
 use Rattle.refusal.specs.Answer.{Answer, done, ◌>>=◌, ◌>>◌, refuse_when}
 use Rattle.store.specs.Layout.{all_coords}
 use Rattle.rows.specs.Lists.{every}
@@ -17,8 +16,6 @@ use Rattle.place.specs.declared.Placement.{Placement}
 use Rattle.place.specs.declared.Placement.TheVariants.{Given}
 use Rattle.place.specs.Place.{Placed}
 use Rattle.place.specs.Values as line
-use Rattle.placing.specs.declared.Checked.{Checked}
-use Rattle.placing.specs.declared.Checked.TheVariants.{Fine}
 use Rattle.placing.specs.declared.PlacedLine.{PlacedLine}
 use Rattle.placing.specs.Answers.{placed_answer}
 use Rattle.edit.specs.declared.StopRule.{StopRule}
@@ -26,6 +23,7 @@ use Rattle.edit.specs.declared.StopRule.TheVariants.{StopSign, Marking, NoRule}
 use Rattle.edit.specs.Edit.{Draft}
 use Rattle.edit.specs.StopLine.{NewStopLine, rule_at, line_draft, stop_line_edit}
 use Rattle.finishing.specs.Finish.{RoomyAll, planned, Settles}
+use Rattle.refusal.specs.declared.Refusal.{Refusal}
 
 abbrev pub new_stop_line : List ℕ → Placement → List Float → StopRule → NewStopLine
 new_stop_line lanes how given rule = record { lanes = lanes; placement = how; points = given; rule = rule }
@@ -64,19 +62,19 @@ end_tests rule lanes lines rules used xs = do
 pub record LinePlanned (ws : List ℕ) (cs : List Float) (a : NewStopLine) (r : PlacedLine) : Type 0 where
   pub answer : (placed_answer (get_or a.lanes 0 0) r >>= λ p. done (placed_draft a.rule a.lanes (map_of ws cs) p)) ≡ planned (stop_line_edit a) (map_of ws cs)
   pub room : line.Roomy r.line
-  pub lanes : r.checked ≡ Fine → 0 < length a.lanes
+  pub lanes : r.checked ≡ (Ok tt) → 0 < length a.lanes
 
 -- ---- the change set
 
 -- the clamp's warning, about the first lane
 abbrev pub clamped_by : Bool → ℕ → List Warning
-clamped_by clamped lane = cond clamped (warning 1 (some (entity 1 lane)) ∷ []) []
+clamped_by clamped lane = cond clamped (warning 1 (Some (entity 1 lane)) ∷ []) []
 
 -- of a line n and its rule x, or of a line that no rule names
 abbrev pub line_changes : StopRule → ℕ → ℕ → List Warning → ChangeSet
 line_changes StopSign n x w = record { created = entity 5 n ∷ entity 8 x ∷ []; modified = []; deleted = []; warnings = w }
 line_changes Marking n x w = record { created = entity 5 n ∷ entity 8 x ∷ []; modified = []; deleted = []; warnings = w }
-line_changes NoRule n x w = record { created = entity 5 n ∷ []; modified = []; deleted = []; warnings = w ++ (warning 2 (some (entity 5 n)) ∷ []) }
+line_changes NoRule n x w = record { created = entity 5 n ∷ []; modified = []; deleted = []; warnings = w ++ (warning 2 (Some (entity 5 n)) ∷ []) }
 
 -- the number after n, where there is one
 pub record Following (n x : ℕ) : Type 0 where
@@ -97,7 +95,7 @@ pub record SetDrafted (rule : StopRule) (n : ℕ) (w : List Warning) (s : List �
   pub room : RoomyAll s
 
 -- r answers as settling the line's set with the fold f does
-pub record LineSettles (f : List ℕ) (rule : StopRule) (n : ℕ) (w : List Warning) (late : Bool) (r : Checked) : Type 0 where
+pub record LineSettles (f : List ℕ) (rule : StopRule) (n : ℕ) (w : List Warning) (late : Bool) (r : Result (Unit {0}) Refusal) : Type 0 where
   pub second : ℕ
   pub follows : Following n second
   pub settles : Settles f (line_changes rule n second w) late r
@@ -111,8 +109,8 @@ next_after Marking n = suc (suc n)
 next_after NoRule n = suc n
 
 abbrev pub ruled : Option RuleBody → Map → List ℕ → Map
-ruled none m lanes = m
-ruled (some w) m lanes = with_rule m w lanes
+ruled None m lanes = m
+ruled (Some w) m lanes = with_rule m w lanes
 
 pub record RuleAdded (ws : List ℕ) (rule : StopRule) (n : ℕ) (lanes ws' : List ℕ) : Type 0 where
   pub map : (cs : List Float) → length cs ≡ all_coords → map_of ws' cs ≡ ruled (rule_at rule n) (map_of ws cs) lanes

@@ -4,8 +4,10 @@ ghost use Rattle.map.specs.Entity.{entity};
 ghost use Rattle.changes.specs.Layout.{set_words, lists_ok_in};
 ghost use Rattle.stop_lines.specs.Stop.{clamped_by, line_changes, Following, Holds, SetDrafted, LineSettles, next_after};
 
+use changes::lists::Entry;
+use changes::{SetList, WarningCode};
 use edit::StopRule;
-use placing::Checked;
+use refusal::Refusal;
 
 const LAST: u64 = 18446744073709551615;
 
@@ -33,9 +35,16 @@ fn start(draft: &mut [u64], number: u64, clamped: bool, lane: u64)
     ensures { Holds draft.new (record { created = entity 5 number ∷ []; modified = []; deleted = []; warnings = clamped_by clamped lane }) 1 1 }
 {
     building::clear(draft);
-    building::push(draft, 0, 5, number);
+    building::push(draft, SetList::Created, Entry { kind: 5, number });
     if clamped {
-        building::warn(draft, 1, 1, lane);
+        building::warn(
+            draft,
+            WarningCode::PlacementClamped,
+            Entry {
+                kind: 1,
+                number: lane,
+            },
+        );
     }
 }
 
@@ -47,9 +56,27 @@ pub fn draft_set(draft: &mut [u64], rule: StopRule, number: u64, clamped: bool, 
     start(draft, number, clamped, lane);
     let second = following(number);
     match rule {
-        StopRule::StopSign => building::push(draft, 0, 8, second),
-        StopRule::Marking => building::push(draft, 0, 8, second),
-        StopRule::NoRule => building::warn(draft, 2, 5, number),
+        StopRule::StopSign => building::push(
+            draft,
+            SetList::Created,
+            Entry {
+                kind: 8,
+                number: second,
+            },
+        ),
+        StopRule::Marking => building::push(
+            draft,
+            SetList::Created,
+            Entry {
+                kind: 8,
+                number: second,
+            },
+        ),
+        StopRule::NoRule => building::warn(
+            draft,
+            WarningCode::OrphanRule,
+            Entry { kind: 5, number },
+        ),
     }
 }
 
@@ -61,12 +88,12 @@ pub fn check_fold(
     clamped: bool,
     lane: u64,
     late: bool,
-) -> Checked
+) -> Result<(), Refusal>
     requires { lists_ok_in fold.now ≡ true }
     ensures { LineSettles fold.now rule number (clamped_by clamped lane) late result }
 {
     if finishing::fold_room(fold, late) {
-        return Checked::Fine;
+        return Ok(());
     }
     let mut draft = [0u64; 3556];
     draft_set(&mut draft, rule, number, clamped, lane);

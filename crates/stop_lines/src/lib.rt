@@ -5,8 +5,7 @@ pub mod plan; // plan.rt: reading only: where the line goes, and whether there i
 pub mod draft; // draft.rt: the change set
 pub mod storing; // storing.rt: the line and its rule on the map
 
-ghost use Rattle.std.specs.Prelude.{◌≡◌, true, cond, [], ◌∷◌, ◌%◌, ◌≤◌, ◌<◌, length, get_or};
-ghost use Rattle.std.proofs.Math.Option.{some};
+ghost use Rattle.std.specs.Prelude.{◌≡◌, true, cond, [], ◌∷◌, ◌%◌, ◌≤◌, ◌<◌, length, get_or, Some};
 ghost use Rattle.refusal.specs.Answer.{done};
 ghost use Rattle.geometry.specs.Polyline.{polyline_of};
 ghost use Rattle.map.specs.Ceilings.{within_ceilings};
@@ -18,9 +17,8 @@ ghost use Rattle.finishing.specs.Finish.{lent_checks, CallEnds};
 ghost use Rattle.stop_lines.specs.Stop.{new_stop_line, placed_draft, clamped_by};
 
 use changes::Tally;
-use edit::{Answered, Called, StopRule};
-use place::{MaybeEnds, Placement};
-use placing::Checked;
+use edit::{Answered, StopRule};
+use place::{Placement, SectionNames};
 
 // The plan carried out: nothing is stored before the fold is known to take the change set.
 fn carry_out(
@@ -33,7 +31,7 @@ fn carry_out(
     rule: StopRule,
     points: &[f64],
     clamped: bool,
-    ends: MaybeEnds,
+    ends: Option<SectionNames>,
 ) -> Answered
     requires { (lent_checks (record { words = words.old; coords = coords.old; fold = fold.old; tally = tally; set = set.old }) ≡ done tt) × (within_ceilings (placed_draft rule lanes.now (map_of words.old coords.old) (record { points = polyline_of points.now; warnings = clamped_by clamped (get_or lanes.now 0 0); ends = maybe_ends ends })).map ≡ true) × (0 < length lanes.now) × (length points.now ≤ 192) }
     ensures { CallEnds (record { words = words.old; coords = coords.old; fold = fold.old; tally = tally; set = set.old }) (placed_draft rule lanes.now (map_of words.old coords.old) (record { points = polyline_of points.now; warnings = clamped_by clamped (get_or lanes.now 0 0); ends = maybe_ends ends })) result.called (record { words = words.new; coords = coords.new; fold = fold.new; tally = result.tally; set = set.new }) }
@@ -42,14 +40,14 @@ fn carry_out(
     let lane = lanes[0];
     let late = draft::is_late(rule, number);
     let settled = draft::check_fold(fold, rule, number, clamped, lane, late);
-    if let Checked::Refused(r) = settled {
+    if let Err(r) = settled {
         return finishing::refused(r, tally);
     }
     draft::draft_set(set, rule, number, clamped, lane);
     finishing::take_in(fold, set);
     storing::store(words, coords, points, rule, number, lanes);
     Answered {
-        called: Called::Done(number, ends),
+        called: Ok((number, ends)),
         tally: building::tally_of(fold),
     }
 }
@@ -70,12 +68,12 @@ pub fn add_stop_line(
     ensures { CallLeft (add_stop_line (new_stop_line lanes.now how given.now rule)) (record { words = words.old; coords = coords.old; fold = fold.old; tally = tally; set = set.old }) result.called (record { words = words.new; coords = coords.new; fold = fold.new; tally = result.tally; set = set.new }) }
 {
     let lent = finishing::check_lent(words, coords, fold, tally, set);
-    if let Checked::Refused(r) = lent {
+    if let Err(r) = lent {
         return finishing::refused(r, tally);
     }
     let placed = plan::line_plan(words, coords, lanes, how, given, rule);
     let checked = placed.checked;
-    if let Checked::Refused(r) = checked {
+    if let Err(r) = checked {
         return finishing::refused(r, tally);
     }
     let ends = placed.ends;

@@ -10,17 +10,18 @@ ghost use Rattle.stop_lines.specs.Stop.{new_stop_line, list_room, rule_room, roo
 
 use edit::StopRule;
 use place::Placement;
+use placing::PlacedLine;
 use placing::checks::check_lane_list;
 use placing::stop_line::{place_stop_line, refused_line};
-use placing::{Checked, PlacedLine};
 use refusal::Refusal;
+use store::Kind;
 
 // A rule more, with its list of lanes.
 fn list_room(words: &[u64], lanes: usize) -> bool
     requires { SizedWords words.now }
     ensures { result ≡ list_room lanes (count_of words.now 5) }
 {
-    if store::count(words, 5) < 128 {
+    if store::count(words, Kind::Rule) < 128 {
         return lanes <= 16;
     }
     false
@@ -43,7 +44,7 @@ fn room(words: &[u64], rule: StopRule, lanes: usize, points: usize) -> bool
     requires { SizedWords words.now × Few words.now }
     ensures { result ≡ room_for rule lanes (count_of words.now 2) (count_of words.now 5) (all_points words.now) points }
 {
-    if store::count(words, 2) < 64 {
+    if store::count(words, Kind::StopLine) < 64 {
         if !rule_room(words, rule, lanes) {
             return false;
         }
@@ -57,7 +58,7 @@ fn room(words: &[u64], rule: StopRule, lanes: usize, points: usize) -> bool
 }
 
 // The line that was placed is tested for its place on the map (9) and for room (10).
-fn fitted(words: &[u64], placed: PlacedLine, rule: StopRule, lanes: usize) -> Checked
+fn fitted(words: &[u64], placed: PlacedLine, rule: StopRule, lanes: usize) -> Result<(), Refusal>
     requires { SizedWords words.now × Few words.now × Roomy placed.line }
     ensures { checked result ≡ end_tests rule lanes (count_of words.now 2) (count_of words.now 5) (all_points words.now) (points_of placed.line) }
 {
@@ -65,12 +66,12 @@ fn fitted(words: &[u64], placed: PlacedLine, rule: StopRule, lanes: usize) -> Ch
     let points = line.coords;
     let e = line.count * 3;
     if !finishing::stored_ok(&points[..e]) {
-        return Checked::Refused(Refusal::OffTheMap);
+        return Err(Refusal::OffTheMap);
     }
     if !room(words, rule, lanes, line.count) {
-        return Checked::Refused(Refusal::Full);
+        return Err(Refusal::Full);
     }
-    Checked::Fine
+    Ok(())
 }
 
 pub fn line_plan(
@@ -85,16 +86,16 @@ pub fn line_plan(
     ensures { LinePlanned words.now coords.now (new_stop_line lanes.now how given.now rule) result }
 {
     let listed = check_lane_list(words, lanes);
-    if let Checked::Refused(r) = listed {
+    if let Err(r) = listed {
         return refused_line(r);
     }
     let placed = place_stop_line(words, coords, lanes, how, given);
     let checked = placed.checked;
-    if let Checked::Refused(r) = checked {
+    if let Err(r) = checked {
         return refused_line(r);
     }
     let end = fitted(words, placed, rule, lanes.len());
-    if let Checked::Refused(r) = end {
+    if let Err(r) = end {
         return refused_line(r);
     }
     placed

@@ -8,7 +8,7 @@ ghost use Rattle.edit.specs.StopLine.{rule_at};
 ghost use Rattle.stop_lines.specs.Stop.{rule_room, next_after, ruled, RuleAdded};
 
 use edit::StopRule;
-use map::update;
+use map::{NewRule, update};
 
 // The rule on the line that was stored.
 fn add_rule(words: &mut [u64], rule: StopRule, number: u64, lanes: &[u64])
@@ -16,8 +16,17 @@ fn add_rule(words: &mut [u64], rule: StopRule, number: u64, lanes: &[u64])
     ensures { RuleAdded words.old rule number lanes.now words.new }
 {
     match rule {
-        StopRule::StopSign => update::push_rule(words, 2, 1, 1, number, lanes, &lanes[..0]),
-        StopRule::Marking => update::push_rule(words, 3, 0, 1, number, lanes, &lanes[..0]),
+        StopRule::StopSign => {
+            let sign = NewRule::Sign {
+                value: 1,
+                line: Some(number),
+            };
+            update::push_rule(words, sign, lanes, &lanes[..0]);
+        }
+        StopRule::Marking => {
+            let marking = NewRule::Marking { line: number };
+            update::push_rule(words, marking, lanes, &lanes[..0]);
+        }
         StopRule::NoRule => {}
     }
 }

@@ -3,8 +3,8 @@ use Rattle.call_list.proofs.Replies.{no_call_reply, no_call_refused}
 use borrow.Author.Rules.{rules}
 use Rattle.call_list.proofs.no_call_reply.Goals as goal
 
-pub returns-in-Fine : goal.returns-in-Fine
-returns-in-Fine c = search (rules, no_call_reply)
+pub returns-in-Ok : goal.returns-in-Ok
+returns-in-Ok c = search (rules, no_call_reply)
 
-pub returns-in-Refused : goal.returns-in-Refused
-returns-in-Refused c = search (rules, no_call_refused)
+pub returns-in-Err : goal.returns-in-Err
+returns-in-Err c = search (rules, no_call_refused)

@@ -2,8 +2,8 @@
 use Rattle.call_list.proofs.Replies.{done_reply, refused_reply}
 use Rattle.call_list.proofs.reply_of.Goals as goal
 
-pub returns-in-Done : goal.returns-in-Done
-returns-in-Done c = done_reply _ _ _ c.in-Done.is
+pub returns-in-Ok : goal.returns-in-Ok
+returns-in-Ok c = done_reply _ _ _ c.in-Ok.is
 
-pub returns-in-Refused : goal.returns-in-Refused
-returns-in-Refused c = refused_reply _ _ _ _ _ c.in-Refused.is c.number.ensures c.detail_of.ensures c.second_of.ensures
+pub returns-in-Err : goal.returns-in-Err
+returns-in-Err c = refused_reply _ _ _ _ _ c.in-Err.is c.number.ensures c.detail.ensures c.second.ensures

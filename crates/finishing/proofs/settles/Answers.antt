@@ -11,8 +11,8 @@ put-requires c = omega (arith, L.fold_long _ c.requires.0)
 pub take_any-tried-requires : goal.take_any-tried-requires
 take_any-tried-requires c = (ap lists_ok_in (L.copied _ _ _ (sym (L.fold_long _ c.requires.0)) c.put.ensures) ∙ c.requires.0, c.requires.1)
 
-pub returns-in-Refused : goal.returns-in-Refused
-returns-in-Refused c = L.settles_refused _ _ c.args.late _ (L.copied _ _ _ (sym (L.fold_long _ c.requires.0)) c.put.ensures) _ _ _ c.take_any-tried.ensures _ c.in-Refused.is
+pub returns-in-Err : goal.returns-in-Err
+returns-in-Err c = L.settles_refused _ _ c.args.late _ (L.copied _ _ _ (sym (L.fold_long _ c.requires.0)) c.put.ensures) _ _ _ c.take_any-tried.ensures _ c.in-Err.is
 
 pub returns-then-late : goal.returns-then-late
 returns-then-late c = L.settles_late _ _ c.args.late _ (L.copied _ _ _ (sym (L.fold_long _ c.requires.0)) c.put.ensures) _ _ _ c.take_any-tried.ensures c.in_default.is c.if-late.true

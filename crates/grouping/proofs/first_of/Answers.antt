@@ -3,4 +3,4 @@ use Rattle.grouping.proofs.JoinLaws.{first_some}
 use Rattle.grouping.proofs.first_of.Goals as goal
 
 pub returns : goal.returns
-returns c = first_some _ c.args.b _ c.in-At.is
+returns c = first_some _ c.args.b _ c.in-Some.is

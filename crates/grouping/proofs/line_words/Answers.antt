@@ -3,4 +3,4 @@ use Rattle.grouping.proofs.JoinLaws.{words_some}
 use Rattle.grouping.proofs.line_words.Goals as goal
 
 pub returns : goal.returns
-returns c = words_some _ _ c.in-At.is
+returns c = words_some _ _ c.in-Some.is

@@ -17,9 +17,9 @@ light_of-light-requires c = (readable _ _ c.requires).words.sized
 pub joined_for-joined-requires : goal.joined_for-joined-requires
 joined_for-joined-requires c = (readable _ _ c.requires).words
 
-pub returns-in-Refused : goal.returns-in-Refused
-returns-in-Refused c = plan_lost _ _ c.requires c.args.q c.args.lanes.now c.args.points.now c.args.given.now c.args.lamps.now c.light_plan-p.result c.light_plan-p.ensures
-    c.light_of-light.result c.bulbs_of-bulbs.result c.joined_for-joined.result _ c.in-Refused.is
+pub returns-in-Err : goal.returns-in-Err
+returns-in-Err c = plan_lost _ _ c.requires c.args.q c.args.lanes.now c.args.points.now c.args.given.now c.args.lamps.now c.light_plan-p.result c.light_plan-p.ensures
+    c.light_of-light.result c.bulbs_of-bulbs.result c.joined_for-joined.result _ c.in-Err.is
 
 pub lamps_on-on-requires : goal.lamps_on-on-requires
 lamps_on-on-requires c = λ e. c.bulbs_of-bulbs.ensures.standard e
@@ -34,10 +34,10 @@ fitted-end-requires c = (
   c.light_plan-p.ensures.read.housing,
 )
 
-pub returns-in-Refused-end : goal.returns-in-Refused-end
-returns-in-Refused-end c = plan_full _ _ c.requires c.args.q c.args.lanes.now c.args.points.now c.args.given.now c.args.lamps.now c.light_plan-p.result c.light_plan-p.ensures
+pub returns-in-Err-end : goal.returns-in-Err-end
+returns-in-Err-end c = plan_full _ _ c.requires c.args.q c.args.lanes.now c.args.points.now c.args.given.now c.args.lamps.now c.light_plan-p.result c.light_plan-p.ensures
     c.light_of-light.result c.bulbs_of-bulbs.result c.joined_for-joined.result c.in_default.is c.light_of-light.ensures c.bulbs_of-bulbs.ensures
-    c.joined_for-joined.ensures _ c.lamps_on-on.ensures _ c.fitted-end.ensures _ c.in-Refused-end.is _ c.refused_plan.ensures
+    c.joined_for-joined.ensures _ c.lamps_on-on.ensures _ c.fitted-end.ensures _ c.in-Err-end.is _ c.refused_plan.ensures
 
 pub returns : goal.returns
 returns c = plan_ready _ _ c.requires c.args.q c.args.lanes.now c.args.points.now c.args.given.now c.args.lamps.now c.light_plan-p.result c.light_plan-p.ensures

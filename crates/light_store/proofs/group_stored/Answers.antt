@@ -18,7 +18,7 @@ pub slice_bounds-group_put-end : goal.slice_bounds-group_put-end
 slice_bounds-group_put-end c = simp length-take (omega (arith, (c.requires.1 (not-false _ c.if-not-l.false)).few, (c.requires.1 (not-false _ c.if-not-l.false)).room))
 
 pub group_put-requires : goal.group_put-requires
-group_put-requires c = put_asks _ c.args.l _ _ _ c.requires.0 c.requires.1 (not-false _ c.if-not-l.false) c.find.ensures c.in-At.is
+group_put-requires c = put_asks _ c.args.l _ _ _ c.requires.0 c.requires.1 (not-false _ c.if-not-l.false) c.find.ensures c.in-Some.is
 
 pub returns : goal.returns
-returns c = joined_put _ c.args.l _ _ _ _ _ (not-false _ c.if-not-l.false) c.find.ensures c.in-At.is c.line_of-line.ensures c.group_put.ensures
+returns c = joined_put _ c.args.l _ _ _ _ _ (not-false _ c.if-not-l.false) c.find.ensures c.in-Some.is c.line_of-line.ensures c.group_put.ensures

@@ -9,8 +9,8 @@ same_links-same-requires c = K.ready _ _ _ _ _ c.requires.0 _ _ c.requires.1
 pub check_fold-settled-requires : goal.check_fold-settled-requires
 check_fold-settled-requires c = (K.known _ _ _ _ _ c.requires.0).fold
 
-pub returns-in-Refused : goal.returns-in-Refused
-returns-in-Refused c = K.out_refused _ _ _ _ _ c.requires.0 _ _ c.requires.1 c.args.lanes.now c.args.crosswalks.now c.args.lines.now _ c.same_links-same.ensures _ c.check_fold-settled.ensures _ c.in-Refused.is _ _ c.refused.ensures
+pub returns-in-Err : goal.returns-in-Err
+returns-in-Err c = K.out_refused _ _ _ _ _ c.requires.0 _ _ c.requires.1 c.args.lanes.now c.args.crosswalks.now c.args.lines.now _ c.same_links-same.ensures _ c.check_fold-settled.ensures _ c.in-Err.is _ _ c.refused.ensures
 
 pub draft_set-requires : goal.draft_set-requires
 draft_set-requires c = (K.known _ _ _ _ _ c.requires.0).set

@@ -4,7 +4,7 @@ use native.Mathlib.Omega.{arith}
 use Rattle.links.proofs.draft_set.Goals as goal
 
 pub push-requires : goal.push-requires
-push-requires c = (c.clear.ensures.room, omega arith, K.cleared_few _ c.clear.ensures)
+push-requires c = (c.clear.ensures.room, K.cleared_few _ c.clear.ensures)
 
 pub returns-then-not-same : goal.returns-then-not-same
 returns-then-not-same c = K.drafted_one _ _ _ c.clear.ensures c.if-not-same.true _ c.push.ensures

@@ -4,14 +4,14 @@ use Rattle.links.specs.Linked.{rule_links}
 use native.Mathlib.Omega.{arith}
 use Rattle.links.proofs.set_regulatory_links.Goals as goal
 
-pub returns-in-Refused : goal.returns-in-Refused
-returns-in-Refused c = K.lent_turned_down _ _ _ _ _ (rule_links c.args.rule c.args.lanes.now c.args.crosswalks.now c.args.stop_lines.now) _ c.check_lent-lent.ensures _ c.in-Refused.is _ _ c.refused.ensures
+pub returns-in-Err : goal.returns-in-Err
+returns-in-Err c = K.lent_turned_down _ _ _ _ _ (rule_links c.args.rule c.args.lanes.now c.args.crosswalks.now c.args.stop_lines.now) _ c.check_lent-lent.ensures _ c.in-Err.is _ _ c.refused.ensures
 
 pub check_links-known-requires : goal.check_links-known-requires
 check_links-known-requires c = (K.known _ _ _ _ _ (K.is_fine _ _ _ _ _ (rule_links c.args.rule c.args.lanes.now c.args.crosswalks.now c.args.stop_lines.now) _ c.check_lent-lent.ensures c.in_default.is)).sound.sized.words
 
-pub returns-in-Refused-known : goal.returns-in-Refused-known
-returns-in-Refused-known c = K.links_turned_down _ _ _ _ _ (rule_links c.args.rule c.args.lanes.now c.args.crosswalks.now c.args.stop_lines.now) _ c.check_lent-lent.ensures c.in_default.is _ c.check_links-known.ensures _ c.in-Refused-known.is _ _ c.refused-in-Refused-known.ensures
+pub returns-in-Err-known : goal.returns-in-Err-known
+returns-in-Err-known c = K.links_turned_down _ _ _ _ _ (rule_links c.args.rule c.args.lanes.now c.args.crosswalks.now c.args.stop_lines.now) _ c.check_lent-lent.ensures c.in_default.is _ c.check_links-known.ensures _ c.in-Err-known.is _ _ c.refused-in-Err-known.ensures
 
 pub sorted_of-a-requires : goal.sorted_of-a-requires
 sorted_of-a-requires c = ((K.few _ _ _ _ _ (rule_links c.args.rule c.args.lanes.now c.args.crosswalks.now c.args.stop_lines.now) _ c.check_lent-lent.ensures c.in_default.is _ c.check_links-known.ensures c.in_default-known.is).0, (K.lists_passed _ _ _ _ _ (rule_links c.args.rule c.args.lanes.now c.args.crosswalks.now c.args.stop_lines.now) _ c.check_lent-lent.ensures c.in_default.is _ c.check_links-known.ensures c.in_default-known.is).lanes_once)

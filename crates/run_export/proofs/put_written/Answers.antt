@@ -3,8 +3,8 @@ use Rattle.run_export.proofs.Laws.{words_done, words_refused}
 use borrow.Author.Rules.{rules}
 use Rattle.run_export.proofs.put_written.Goals as goal
 
-pub returns-in-Done : goal.returns-in-Done
-returns-in-Done c = words_done _ _ c.in-Done.is
+pub returns-in-Ok : goal.returns-in-Ok
+returns-in-Ok c = words_done _ _ c.in-Ok.is
 
-pub returns-in-Refused : goal.returns-in-Refused
-returns-in-Refused c = search (rules, words_refused)
+pub returns-in-Err : goal.returns-in-Err
+returns-in-Err c = search (rules, words_refused)

@@ -9,8 +9,8 @@ returns-then-words-ne-WORDS c = search (rules, tested_words)
 pub returns-then-coords-ne-COORDS : goal.returns-then-coords-ne-COORDS
 returns-then-coords-ne-COORDS c = search (rules, tested_coords)
 
-pub returns-in-Done : goal.returns-in-Done
-returns-in-Done c = search (rules, tested_done)
+pub returns-in-Ok : goal.returns-in-Ok
+returns-in-Ok c = search (rules, tested_done)
 
 pub returns-then-is_map_file : goal.returns-then-is_map_file
 returns-then-is_map_file c = search (rules, tested_sets)

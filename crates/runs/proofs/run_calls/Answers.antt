@@ -4,10 +4,10 @@ use Rattle.runs.proofs.RowLaws.{run_refused, run_room, run_done}
 use Rattle.runs.proofs.run_calls.Goals as goal
 
 pub run_rows-requires : goal.run_rows-requires
-run_rows-requires c = run_room _ [] [] _ _ _ c.check_run-checked.ensures _ c.in-Done.is
+run_rows-requires c = run_room _ [] [] _ _ _ c.check_run-checked.ensures _ c.in-Ok.is
 
-pub returns-in-Refused : goal.returns-in-Refused
-returns-in-Refused c = run_refused _ _ _ _ _ _ c.check_run-checked.ensures _ c.in-Refused.is
+pub returns-in-Err : goal.returns-in-Err
+returns-in-Err c = run_refused _ _ _ _ _ _ c.check_run-checked.ensures _ c.in-Err.is
 
-pub returns-in-Done : goal.returns-in-Done
-returns-in-Done c = run_done _ _ _ _ _ _ c.check_run-checked.ensures _ c.in-Done.is _ _ c.run_rows.ensures
+pub returns-in-Ok : goal.returns-in-Ok
+returns-in-Ok c = run_done _ _ _ _ _ _ c.check_run-checked.ensures _ c.in-Ok.is _ _ c.run_rows.ensures

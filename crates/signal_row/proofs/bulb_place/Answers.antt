@@ -14,4 +14,4 @@ pub returns-in_default : goal.returns-in_default
 returns-in_default c = place_none _ c.args.height c.args.i c.args.n _ c.fraction_of.ensures c.in_default.is
 
 pub returns : goal.returns
-returns c = place_at_lem _ c.args.height c.args.i c.args.n _ c.fraction_of.ensures _ c.in-At.is
+returns c = place_at_lem _ c.args.height c.args.i c.args.n _ c.fraction_of.ensures _ c.in-Some.is

@@ -7,8 +7,8 @@ pub check_fold-settled-requires : goal.check_fold-settled-requires
 check_fold-settled-requires c = let asks = K.set_asks _ _ _ _ _ c.requires.0 c.args.q c.args.lanes.now c.args.points.now c.args.given.now c.args.lamps.now c.args.p c.requires.1 in
     (asks.0, asks.1, (K.known _ _ _ _ _ c.requires.0).fold)
 
-pub returns-in-Refused : goal.returns-in-Refused
-returns-in-Refused c = K.out_refused _ _ _ _ _ c.requires.0 c.args.q c.args.lanes.now c.args.points.now c.args.given.now c.args.lamps.now c.args.p c.requires.1 _ c.check_fold-settled.ensures _ c.in-Refused.is _ _ c.refused.ensures
+pub returns-in-Err : goal.returns-in-Err
+returns-in-Err c = K.out_refused _ _ _ _ _ c.requires.0 c.args.q c.args.lanes.now c.args.points.now c.args.given.now c.args.lamps.now c.args.p c.requires.1 _ c.check_fold-settled.ensures _ c.in-Err.is _ _ c.refused.ensures
 
 pub draft_set-requires : goal.draft_set-requires
 draft_set-requires c = let asks = K.set_asks _ _ _ _ _ c.requires.0 c.args.q c.args.lanes.now c.args.points.now c.args.given.now c.args.lamps.now c.args.p c.requires.1 in

@@ -6,14 +6,14 @@ use Rattle.stop_lines.proofs.PlanLaws as P
 use Rattle.stop_lines.proofs.CarryLaws as K
 use Rattle.stop_lines.proofs.add_stop_line.Goals as goal
 
-pub returns-in-Refused : goal.returns-in-Refused
-returns-in-Refused c = K.lent_turned_down _ _ _ _ _ (new_stop_line c.args.lanes.now c.args.how c.args.given.now c.args.rule) _ c.check_lent-lent.ensures _ c.in-Refused.is _ _ c.refused.ensures
+pub returns-in-Err : goal.returns-in-Err
+returns-in-Err c = K.lent_turned_down _ _ _ _ _ (new_stop_line c.args.lanes.now c.args.how c.args.given.now c.args.rule) _ c.check_lent-lent.ensures _ c.in-Err.is _ _ c.refused.ensures
 
 pub line_plan-placed-requires : goal.line_plan-placed-requires
 line_plan-placed-requires c = (K.known _ _ _ _ _ (K.is_fine _ _ _ _ _ (new_stop_line c.args.lanes.now c.args.how c.args.given.now c.args.rule) _ c.check_lent-lent.ensures c.in_default.is)).tables
 
-pub returns-in-Refused-checked : goal.returns-in-Refused-checked
-returns-in-Refused-checked c = K.plan_turned_down _ _ _ _ _ (new_stop_line c.args.lanes.now c.args.how c.args.given.now c.args.rule) _ c.check_lent-lent.ensures c.in_default.is _ c.line_plan-placed.ensures _ c.in-Refused-checked.is _ _ c.refused-in-Refused-checked.ensures
+pub returns-in-Err-checked : goal.returns-in-Err-checked
+returns-in-Err-checked c = K.plan_turned_down _ _ _ _ _ (new_stop_line c.args.lanes.now c.args.how c.args.given.now c.args.rule) _ c.check_lent-lent.ensures c.in_default.is _ c.line_plan-placed.ensures _ c.in-Err-checked.is _ _ c.refused-in-Err-checked.ensures
 
 pub overflow_mul-e : goal.overflow_mul-e
 overflow_mul-e c = omega (arith, c.line_plan-placed.ensures.room.few)

@@ -9,8 +9,8 @@ fresh-number-requires c = (K.known _ _ _ _ _ c.requires.0).sound.sized.words
 pub check_fold-settled-requires : goal.check_fold-settled-requires
 check_fold-settled-requires c = (K.known _ _ _ _ _ c.requires.0).fold
 
-pub returns-in-Refused : goal.returns-in-Refused
-returns-in-Refused c = K.out_refused _ _ _ _ _ c.requires.0 c.args.rule c.args.lanes.now c.args.points.now c.args.clamped c.args.ends _ c.fresh-number.ensures _ c.is_late-late.ensures _ c.check_fold-settled.ensures _ c.in-Refused.is _ _ c.refused.ensures
+pub returns-in-Err : goal.returns-in-Err
+returns-in-Err c = K.out_refused _ _ _ _ _ c.requires.0 c.args.rule c.args.lanes.now c.args.points.now c.args.clamped c.args.ends _ c.fresh-number.ensures _ c.is_late-late.ensures _ c.check_fold-settled.ensures _ c.in-Err.is _ _ c.refused.ensures
 
 pub draft_set-requires : goal.draft_set-requires
 draft_set-requires c = (K.known _ _ _ _ _ c.requires.0).set

@@ -7,7 +7,7 @@ pub loop-i-init : goal.loop-i-init
 loop-i-init c = applying_start _ _ _ _ c.requires
 
 pub count-requires : goal.count-requires
-count-requires c = (c.loop-i.invariant.readable.words.sized, omega arith)
+count-requires c = c.loop-i.invariant.readable.words.sized
 
 pub lift_at-i-requires : goal.lift_at-i-requires
 lift_at-i-requires c = (c.loop-i.invariant.readable, omega (arith, c.count.ensures, c.loop-i-test.true))

@@ -10,7 +10,7 @@ pub returns-in_default : goal.returns-in_default
 returns-in_default c = joined_lost _ _ _ _ _ _ refl refl c.find.ensures c.in_default.is
 
 pub joined_lanes-requires : goal.joined_lanes-requires
-joined_lanes-requires c = (c.requires, found_here _ _ _ _ c.find.ensures c.in-At.is)
+joined_lanes-requires c = (c.requires, found_here _ _ _ _ c.find.ensures c.in-Some.is)
 
 pub returns : goal.returns
-returns c = joined_some _ _ _ _ _ _ _ c.if-not-joins.false c.find.ensures c.in-At.is c.joined_lanes.ensures
+returns c = joined_some _ _ _ _ _ _ _ c.if-not-joins.false c.find.ensures c.in-Some.is c.joined_lanes.ensures

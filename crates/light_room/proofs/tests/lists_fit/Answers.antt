@@ -9,7 +9,7 @@ pub returns-in_default : goal.returns-in_default
 returns-in_default c = lists_lost _ _ _ _ _ _ c.if-not-joins.false c.find.ensures c.in_default.is
 
 pub word-requires : goal.word-requires
-word-requires c = signals_asks _ c.requires _ _ _ c.find.ensures c.in-At.is
+word-requires c = signals_asks _ c.requires _ _ _ c.find.ensures c.in-Some.is
 
 pub returns : goal.returns
-returns c = lists_group _ _ _ _ c.args.joined _ _ _ _ c.if-not-joins.false c.find.ensures c.in-At.is c.word.ensures c.both.ensures
+returns c = lists_group _ _ _ _ c.args.joined _ _ _ _ c.if-not-joins.false c.find.ensures c.in-Some.is c.word.ensures c.both.ensures

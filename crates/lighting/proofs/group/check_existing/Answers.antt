@@ -6,10 +6,10 @@ pub returns-in_default : goal.returns-in_default
 returns-in_default c = existing_unknown _ c.args.group _ _ c.find.ensures c.in_default.is
 
 pub returns-in_default-group : goal.returns-in_default-group
-returns-in_default-group c = existing_free _ _ _ _ c.find.ensures _ c.in-At.is c.in_default-group.is
+returns-in_default-group c = existing_free _ _ _ _ c.find.ensures _ c.in-Some.is c.in_default-group.is
 
 pub returns-then-g-s : goal.returns-then-g-s
-returns-then-g-s c = existing_other _ _ _ _ c.find.ensures _ c.in-At.is _ c.in-At-group.is c.if-g-s.true
+returns-then-g-s c = existing_other _ _ _ _ c.find.ensures _ c.in-Some.is _ c.in-Some-group.is c.if-g-s.true
 
 pub returns : goal.returns
-returns c = existing_same _ _ _ _ c.find.ensures _ c.in-At.is _ c.in-At-group.is c.if-g-s.false
+returns c = existing_same _ _ _ _ c.find.ensures _ c.in-Some.is _ c.in-Some-group.is c.if-g-s.false

@@ -5,4 +5,4 @@ use Rattle.lighting.proofs.housings.housing_at.Goals as goal
 
 pub returns : goal.returns
 unfolding housing_at
-returns c = rw (c.scale2-side.ensures, c.perp.ensures)
+returns c = rw (c.scale-side.ensures, c.perp.ensures)

@@ -6,4 +6,4 @@ pub returns-in_default : goal.returns-in_default
 returns-in_default c = station_none _ c.in_default.is
 
 pub returns : goal.returns
-returns c = station_is _ _ c.in-At.is
+returns c = station_is _ _ c.in-Some.is

@@ -13,10 +13,10 @@ returns-then-not-center c = end_missing _ c.args.lanes.now c.args.center c.requi
 pub slice_bounds-part-end : goal.slice_bounds-part-end
 slice_bounds-part-end c = part_long _ _ (omega (arith, c.requires.1.room.few, c.requires.1.room.long))
 
-pub returns-in-Refused : goal.returns-in-Refused
-returns-in-Refused c = end_refused _ c.args.lanes.now c.args.center c.requires.1 c.if-not-center.false _ c.length.ensures _ c.cross_section.ensures _ _ c.in-Refused.is c.refused_line-in-Refused.ensures
+pub returns-in-Err : goal.returns-in-Err
+returns-in-Err c = end_refused _ c.args.lanes.now c.args.center c.requires.1 c.if-not-center.false _ c.length.ensures _ c.cross_section.ensures _ _ c.in-Err.is c.refused_line-in-Err.ensures
 
-pub returns-in-At : goal.returns-in-At
-returns-in-At c = let long-across : length c.across.result.coords ≡ 192 = search rules in
+pub returns-in-Ok : goal.returns-in-Ok
+returns-in-Ok c = let long-across : length c.across.result.coords ≡ 192 = search rules in
     end_placed _ c.args.lanes.now c.args.center c.requires.1 c.if-not-center.false _ c.length.ensures _ c.cross_section.ensures _ _ _
-    c.in-At.is c.across.ensures (long-across)
+    c.in-Ok.is c.across.ensures (long-across)

@@ -9,14 +9,14 @@ pub returns-in_default : goal.returns-in_default
 returns-in_default c = no_stored _ c.args.coords.now _ _ c.find.ensures _ c.in_default.is c.refused_line.ensures
 
 pub word-requires : goal.word-requires
-word-requires c = stored_word _ _ _ _ c.find.ensures c.requires _ c.in-At.is
+word-requires c = stored_word _ _ _ _ c.find.ensures c.requires _ c.in-Some.is
 
 pub points-requires : goal.points-requires
-points-requires c = stored_points _ _ _ _ c.find.ensures c.requires _ c.in-At.is _ _ c.word.ensures c.index-n.ensures
+points-requires c = stored_points _ _ _ _ c.find.ensures c.requires _ c.in-Some.is _ _ c.word.ensures c.index-n.ensures
 
 pub copied-requires : goal.copied-requires
-copied-requires c = stored_part _ _ _ _ c.find.ensures c.requires _ c.in-At.is _ _ c.word.ensures c.index-n.ensures _ c.points.ensures
+copied-requires c = stored_part _ _ _ _ c.find.ensures c.requires _ c.in-Some.is _ _ c.word.ensures c.index-n.ensures _ c.points.ensures
 
 pub returns : goal.returns
 returns c = let long-copied : length c.copied.result.coords ≡ 192 = search rules in
-    stored_line _ _ _ _ c.find.ensures c.requires _ c.in-At.is _ _ c.word.ensures c.index-n.ensures _ c.points.ensures _ c.copied.ensures (long-copied)
+    stored_line _ _ _ _ c.find.ensures c.requires _ c.in-Some.is _ _ c.word.ensures c.index-n.ensures _ c.points.ensures _ c.copied.ensures (long-copied)

@@ -9,8 +9,8 @@ loop-i-init c = (c.count-n.ensures, lineless_start _ _ _ c.count-n.ensures)
 pub line_on-u-requires : goal.line_on-u-requires
 line_on-u-requires c = (c.requires, omega (arith, c.loop-i.invariant.0, c.loop-i-test.true))
 
-pub returns-in-At : goal.returns-in-At
-returns-in-At c = lineless_found _ _ _ _ c.loop-i.invariant.1 c.loop-i-test.true _ c.line_on-u.ensures _ c.in-At.is
+pub returns-in-Some : goal.returns-in-Some
+returns-in-Some c = lineless_found _ _ _ _ c.loop-i.invariant.1 c.loop-i-test.true _ c.line_on-u.ensures _ c.in-Some.is
 
 pub loop-i-smaller : goal.loop-i-smaller
 loop-i-smaller c = omega (arith, c.loop-i-test.true)

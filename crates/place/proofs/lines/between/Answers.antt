@@ -2,7 +2,7 @@
 use mathlib.Core.Path.{◌≡◌}
 use lib.ListN.{length}
 use native.Mathlib.Omega.{arith}
-use Rattle.place.proofs.LineLaws.{part_long, no_left, no_right, sides_few, between_made}
+use Rattle.place.proofs.LineLaws.{part_long, no_left, no_right, sides_few, between_none, between_made}
 use borrow.Author.Rules.{rules}
 use Rattle.place.proofs.lines.between.Goals as goal
 
@@ -24,9 +24,12 @@ slice_bounds-right-end c = omega (arith, c.requires.1.few, c.requires.1.long)
 pub slice_bounds-centerline-end-2 : goal.slice_bounds-centerline-end-2
 slice_bounds-centerline-end-2 c = part_long _ _ (omega (arith, c.requires.1.few, c.requires.1.long))
 
-pub centerline-c-requires : goal.centerline-c-requires
-centerline-c-requires c = sides_few c.args.a c.args.b c.requires.0 c.requires.1
+pub centerline-requires : goal.centerline-requires
+centerline-requires c = sides_few c.args.a c.args.b c.requires.0 c.requires.1
 
-pub returns : goal.returns
-returns c = let long : length c.centerline-c.result.coords ≡ 192 = search rules in
-    between_made c.args.a c.args.b c.requires.0 c.requires.1 _ c.centerline-c.ensures (long) c.if-not-a.false c.if-not-b.false
+pub returns-in-None : goal.returns-in-None
+returns-in-None c = between_none c.args.a c.args.b c.requires.0 c.requires.1 _ c.centerline.ensures c.if-not-a.false c.if-not-b.false _ c.in-None.is c.absent-in-None.ensures
+
+pub returns-in-Some : goal.returns-in-Some
+returns-in-Some c = let long : length c.in-Some.line.coords ≡ 192 = search rules in
+    between_made c.args.a c.args.b c.requires.0 c.requires.1 _ c.centerline.ensures c.if-not-a.false c.if-not-b.false _ c.in-Some.is (long)

@@ -16,7 +16,7 @@ pub loop-i-smaller : goal.loop-i-smaller
 loop-i-smaller c = omega (arith, c.loop-i-test.true)
 
 pub loop-i-preserved : goal.loop-i-preserved
-loop-i-preserved c = laning_next _ _ _ _ _ _ c.loop-i.invariant c.loop-i-test.true _ c.with_lane.ensures _ c.in-Ends.is
+loop-i-preserved c = laning_next _ _ _ _ _ _ c.loop-i.invariant c.loop-i-test.true _ c.with_lane.ensures _ c.in-Some.is
 
 pub returns : goal.returns
 returns c = laning_end _ _ _ _ _ _ c.loop-i.invariant c.loop-i-test.false

@@ -8,11 +8,11 @@ use borrow.Author.Rules.{rules}
 use Rattle.placing.proofs.stop_line.given_line.Goals as goal
 
 pub copied-requires : goal.copied-requires
-copied-requires c = shape_few _ (sym (ap checked c.in-Fine.is) ∙ c.check_polyline.ensures)
+copied-requires c = shape_few _ (sym (ap checked c.in-Ok.is) ∙ c.check_polyline.ensures)
 
-pub returns-in-Refused : goal.returns-in-Refused
-returns-in-Refused c = (given_refused _ c.args.reference _ c.check_polyline.ensures _ _ c.in-Refused.is c.refused_line.ensures, c.refused_line.ensures.room)
+pub returns-in-Err : goal.returns-in-Err
+returns-in-Err c = (given_refused _ c.args.reference _ c.check_polyline.ensures _ _ c.in-Err.is c.refused_line.ensures, c.refused_line.ensures.room)
 
-pub returns-in-Fine : goal.returns-in-Fine
-returns-in-Fine c = let long-copied : length c.copied.result.coords ≡ 192 = search rules in
-    (given_placed _ c.args.reference _ c.check_polyline.ensures _ c.in-Fine.is c.copied.ensures, given_room _ _ (shape_few _ (sym (ap checked c.in-Fine.is) ∙ c.check_polyline.ensures)) c.copied.ensures (long-copied))
+pub returns-in-Ok : goal.returns-in-Ok
+returns-in-Ok c = let long-copied : length c.copied.result.coords ≡ 192 = search rules in
+    (given_placed _ c.args.reference _ c.check_polyline.ensures _ c.in-Ok.is c.copied.ensures, given_room _ _ (shape_few _ (sym (ap checked c.in-Ok.is) ∙ c.check_polyline.ensures)) c.copied.ensures (long-copied))

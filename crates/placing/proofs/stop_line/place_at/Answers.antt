@@ -10,9 +10,9 @@ use Rattle.placing.proofs.stop_line.place_at.Goals as goal
 pub returns-then-not-is_finite : goal.returns-then-not-is_finite
 returns-then-not-is_finite c = (station_bad _ _ _ _ _ _ _ c.is_finite.ensures _ (ap not c.if-not-is_finite.true) c.refused_line.ensures, c.refused_line.ensures.room)
 
-pub returns-in-Refused : goal.returns-in-Refused
-returns-in-Refused c = (search (rules, section_refused), search rules)
+pub returns-in-Err : goal.returns-in-Err
+returns-in-Err c = (search (rules, section_refused), search rules)
 
-pub returns-in-At : goal.returns-in-At
-returns-in-At c = let long-across : length c.across.result.coords ≡ 192 = search rules in
+pub returns-in-Ok : goal.returns-in-Ok
+returns-in-Ok c = let long-across : length c.across.result.coords ≡ 192 = search rules in
     (search (rules, section_placed), across_room _ _ _ c.across.ensures (long-across))

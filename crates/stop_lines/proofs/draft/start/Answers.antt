@@ -4,7 +4,7 @@ use Rattle.stop_lines.proofs.DraftLaws as D
 use Rattle.stop_lines.proofs.draft.start.Goals as goal
 
 pub push-requires : goal.push-requires
-push-requires c = (c.clear.ensures.room, omega arith, D.cleared_few _ c.clear.ensures)
+push-requires c = (c.clear.ensures.room, D.cleared_few _ c.clear.ensures)
 
 pub warn-requires : goal.warn-requires
 warn-requires c = (c.push.ensures.room, D.entry_unwarned _ _ _ c.clear.ensures c.push.ensures)

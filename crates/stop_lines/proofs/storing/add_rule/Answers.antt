@@ -4,10 +4,10 @@ use Rattle.stop_lines.proofs.StoringLaws as S
 use Rattle.stop_lines.proofs.storing.add_rule.Goals as goal
 
 pub push_rule-requires : goal.push_rule-requires
-push_rule-requires c = (c.requires.0, (S.sign_asks _ _ _ _ c.requires.1 c.requires.2 c.in-StopSign.is).free, (S.sign_asks _ _ _ _ c.requires.1 c.requires.2 c.in-StopSign.is).left, omega arith, omega arith, (S.sign_asks _ _ _ _ c.requires.1 c.requires.2 c.in-StopSign.is).short, omega arith)
+push_rule-requires c = (c.requires.0, (S.sign_asks _ _ _ _ c.requires.1 c.requires.2 c.in-StopSign.is).free, (S.sign_asks _ _ _ _ c.requires.1 c.requires.2 c.in-StopSign.is).left, (S.sign_asks _ _ _ _ c.requires.1 c.requires.2 c.in-StopSign.is).short, omega arith)
 
 pub push_rule-requires-in-Marking : goal.push_rule-requires-in-Marking
-push_rule-requires-in-Marking c = (c.requires.0, (S.marking_asks _ _ _ _ c.requires.1 c.requires.2 c.in-Marking.is).free, (S.marking_asks _ _ _ _ c.requires.1 c.requires.2 c.in-Marking.is).left, omega arith, omega arith, (S.marking_asks _ _ _ _ c.requires.1 c.requires.2 c.in-Marking.is).short, omega arith)
+push_rule-requires-in-Marking c = (c.requires.0, (S.marking_asks _ _ _ _ c.requires.1 c.requires.2 c.in-Marking.is).free, (S.marking_asks _ _ _ _ c.requires.1 c.requires.2 c.in-Marking.is).left, (S.marking_asks _ _ _ _ c.requires.1 c.requires.2 c.in-Marking.is).short, omega arith)
 
 pub returns-in-StopSign : goal.returns-in-StopSign
 returns-in-StopSign c = S.sign_added _ _ _ _ _ c.in-StopSign.is c.push_rule.ensures
