@@ -1,202 +1,173 @@
 // Files at each ceiling, and one past it.
 #![tactic(auto)]
 
-use file_trials::Count;
-use made_files::{bytes, number};
+use file_trials::{Count, Trials, Want};
+use made_files::sets::set;
+use made_files::{bulbs, bytes, list, number, one_table, points, table};
 
-// Past the next number, what comes before a polyline: a lane's centreline, a boundary, a stop line, a housing, a crosswalk's
-// left and right edge and outline, a sign's shape.
-fn before_line(out: &mut [u8], at: usize, which: u64) -> usize {
-    match which {
-        0 => bytes(out, at, b"\x01\x01\x00\x00\x00\x00\x00\x01"),
-        1 => bytes(out, at, b"\x00\x01\x01"),
-        2 => bytes(out, at, b"\x00\x00\x01\x01"),
-        3 => bytes(out, at, b"\x00\x00\x00\x01\x01\x00"),
-        4 => bytes(out, at, b"\x00\x00\x00\x00\x01\x01"),
-        5 => bytes(out, at, b"\x00\x00\x00\x00\x01\x01\x00"),
-        6 => bytes(out, at, b"\x00\x00\x00\x00\x01\x01\x00\x00\x01"),
-        _ => bytes(out, at, b"\x00\x00\x00\x00\x00\x01\x01\x02\x01\x01"),
+// What stands in a map file around a list, behind the next number.
+#[derive(Clone, Copy)]
+struct Frame {
+    before: &'static [u8],
+    after: &'static [u8],
+}
+
+impl Frame {
+    // The file; the list is written by a closure, from a place on.
+    fn file<F: FnOnce(&mut [u8], usize) -> usize>(&self, out: &mut [u8], write: F) -> usize
+        requires { F.IsAlwaysCallable write }
+    {
+        let next = number(out, 0, 1000);
+        let at = bytes(out, next, self.before);
+        let end = write(out, at);
+        bytes(out, end, self.after)
     }
 }
 
-// And what comes after it.
-fn after_line(out: &mut [u8], at: usize, which: u64) -> usize {
-    match which {
-        0 => bytes(out, at, b"\x00\x00\x00\x00\x00"),
-        1 => bytes(out, at, b"\x00\x00\x00\x00"),
-        2 => bytes(out, at, b"\x00\x00\x00"),
-        3 => bytes(out, at, b"\x00\x00\x00\x00"),
-        4 => bytes(out, at, b"\x00\x00\x00"),
-        5 => bytes(out, at, b"\x00\x00"),
-        6 => bytes(out, at, b"\x00"),
-        _ => bytes(out, at, b"\x00\x00\x00"),
-    }
+// Polylines: a lane's centreline, a boundary, a stop line, a housing, a crosswalk's left and right edge and outline, a sign's shape.
+const LINES: [Frame; 8] = [
+    Frame {
+        before: b"\x01\x01\x00\x00\x00\x00\x00\x01",
+        after: b"\x00\x00\x00\x00\x00",
+    },
+    Frame {
+        before: b"\x00\x01\x01",
+        after: b"\x00\x00\x00\x00",
+    },
+    Frame {
+        before: b"\x00\x00\x01\x01",
+        after: b"\x00\x00\x00",
+    },
+    Frame {
+        before: b"\x00\x00\x00\x01\x01\x00",
+        after: b"\x00\x00\x00\x00",
+    },
+    Frame {
+        before: b"\x00\x00\x00\x00\x01\x01",
+        after: b"\x00\x00\x00",
+    },
+    Frame {
+        before: b"\x00\x00\x00\x00\x01\x01\x00",
+        after: b"\x00\x00",
+    },
+    Frame {
+        before: b"\x00\x00\x00\x00\x01\x01\x00\x00\x01",
+        after: b"\x00",
+    },
+    Frame {
+        before: b"\x00\x00\x00\x00\x00\x01\x01\x02\x01\x01",
+        after: b"\x00\x00\x00",
+    },
+];
+
+// Lists of a rule: a light's signals, who has priority, who yields, the lines of a right of way and of a crossing, lanes, controlled
+// crosswalks.
+const LISTS: [Frame; 7] = [
+    Frame {
+        before: b"\x00\x00\x00\x00\x00\x01\x01\x01",
+        after: b"\x00\x00\x00",
+    },
+    Frame {
+        before: b"\x00\x00\x00\x00\x00\x01\x01\x04",
+        after: b"\x00\x00\x00\x00",
+    },
+    Frame {
+        before: b"\x00\x00\x00\x00\x00\x01\x01\x04\x00",
+        after: b"\x00\x00\x00",
+    },
+    Frame {
+        before: b"\x00\x00\x00\x00\x00\x01\x01\x04\x00\x00",
+        after: b"\x00\x00",
+    },
+    Frame {
+        before: b"\x00\x00\x00\x00\x00\x01\x01\x05\x09",
+        after: b"\x00\x00",
+    },
+    Frame {
+        before: b"\x00\x00\x00\x00\x00\x01\x01\x06\x01",
+        after: b"\x00",
+    },
+    Frame {
+        before: b"\x00\x00\x00\x00\x00\x01\x01\x06\x01\x00",
+        after: b"",
+    },
+];
+
+const BULBS: Frame = Frame {
+    before: b"\x00\x00\x00\x01\x01\x00\x00\x00",
+    after: b"\x00\x00",
+};
+
+// How many records each table has room for.
+const TABLES: [u64; 6] = [64, 128, 64, 64, 32, 128];
+
+// A file at a ceiling, and one past it.
+fn at_ceiling<F: Fn(&mut [u8], u64) -> usize>(trials: &mut Trials, most: u64, make: F)
+    requires { F.IsAlwaysCallable make }
+{
+    trials.trial_made(Want::Accepted, |out| make(out, most));
+    let more = most.saturating_add(1);
+    trials.trial_made(Want::Refused, |out| make(out, more));
 }
 
-// The same for a list of a rule: a light's signals, who has priority, who yields, the lines of a right of way and of a
-// crossing, lanes, controlled crosswalks.
-fn before_list(out: &mut [u8], at: usize, which: u64) -> usize {
-    let next = bytes(out, at, b"\x00\x00\x00\x00\x00\x01\x01");
-    match which {
-        0 => bytes(out, next, b"\x01"),
-        1 => bytes(out, next, b"\x04"),
-        2 => bytes(out, next, b"\x04\x00"),
-        3 => bytes(out, next, b"\x04\x00\x00"),
-        4 => bytes(out, next, b"\x05\x09"),
-        5 => bytes(out, next, b"\x06\x01"),
-        _ => bytes(out, next, b"\x06\x01\x00"),
+// Each table, polyline and list of a map.
+pub fn maps(trials: &mut Trials) -> Count {
+    for (kind, most) in (0..6).zip(TABLES) {
+        at_ceiling(trials, most, |out, count| one_table(out, kind, count));
     }
+    for line in LINES {
+        at_ceiling(
+            trials,
+            64,
+            |out, count| line.file(out, |out, at| points(out, at, count, 7)),
+        );
+    }
+    for frame in LISTS {
+        at_ceiling(
+            trials,
+            16,
+            |out, count| frame.file(out, |out, at| list(out, at, count, 7)),
+        );
+    }
+    at_ceiling(
+        trials,
+        4,
+        |out, count| BULBS.file(out, |out, at| bulbs(out, at, count)),
+    );
+    trials.counted()
 }
 
-fn after_list(out: &mut [u8], at: usize, which: u64) -> usize {
-    match which {
-        0 => bytes(out, at, b"\x00\x00\x00"),
-        1 => bytes(out, at, b"\x00\x00\x00\x00"),
-        2 => bytes(out, at, b"\x00\x00\x00"),
-        3 => bytes(out, at, b"\x00\x00"),
-        4 => bytes(out, at, b"\x00\x00"),
-        5 => bytes(out, at, b"\x00"),
-        _ => at,
+// So many lanes, boundaries, stop lines, signals and crosswalks. Boundaries have 64 points, crosswalks three, the others one.
+fn points_file(out: &mut [u8], counts: [u64; 5]) -> usize {
+    let mut next = number(out, 0, 1000);
+    for (kind, count) in (0..5).zip(counts) {
+        let each = if kind == 1 { 64 } else { 1 };
+        next = table(out, next, kind, count, 1, each);
     }
-}
-
-fn line_file(out: &mut [u8], which: u64, count: u64) -> usize {
-    let next = number(out, 0, 1000);
-    let a = before_line(out, next, which);
-    let b = made_files::points(out, a, count, 7);
-    after_line(out, b, which)
-}
-
-fn list_file(out: &mut [u8], which: u64, count: u64) -> usize {
-    let next = number(out, 0, 1000);
-    let a = before_list(out, next, which);
-    let b = made_files::list(out, a, count, 7);
-    after_list(out, b, which)
-}
-
-fn bulb_file(out: &mut [u8], count: u64) -> usize {
-    let next = number(out, 0, 1000);
-    let a = bytes(out, next, b"\x00\x00\x00\x01\x01\x00\x00\x00");
-    let b = made_files::bulbs(out, a, count);
-    bytes(out, b, b"\x00\x00")
-}
-
-// A file of each class: 0 to 5 tables, 6 to 13 polylines, 14 to 20 lists, 21 bulbs.
-fn map_file(out: &mut [u8], class: u64, count: u64) -> usize {
-    if class < 6 {
-        return made_files::one_table(out, class, count);
-    }
-    if class < 14 {
-        return line_file(out, class - 6, count);
-    }
-    if class < 21 {
-        return list_file(out, class - 14, count);
-    }
-    bulb_file(out, count)
-}
-
-fn ceiling(class: u64) -> u64 {
-    if 20 < class {
-        return 4;
-    }
-    if 13 < class {
-        return 16;
-    }
-    match class {
-        1 => 128,
-        4 => 32,
-        5 => 128,
-        _ => 64,
-    }
-}
-
-// At a ceiling, and one past it.
-fn asked_of(past: u64) -> u64 {
-    if past == 0 {
-        return file_trials::ACCEPTED;
-    }
-    file_trials::REFUSED
-}
-
-// A file of each class at its ceiling, and one past it.
-pub fn maps(words: &mut [u64], coords: &mut [f64]) -> Count {
-    let mut work = [0u8; 32768];
-    let mut back = [0u8; 32768];
-    let mut c = file_trials::start(words, coords);
-    let mut i = 0u64;
-    while i < 44 {
-        let count = std::num::wrapping_add_u64(ceiling(i / 2), i % 2);
-        let n = map_file(&mut work, i / 2, count);
-        c = file_trials::trial_to(&work, n, words, coords, &mut back, asked_of(i % 2), c);
-        i += 1;
-    }
-    c
-}
-
-// Lanes, stop lines and signals of one point, boundaries of 64, and crosswalks of three.
-fn points_file(
-    out: &mut [u8],
-    lanes: u64,
-    boundaries: u64,
-    lines: u64,
-    signals: u64,
-    crosswalks: u64,
-) -> usize {
-    let a = number(out, 0, 1000);
-    let b = made_files::table(out, a, 0, lanes, 1, 1);
-    let c = made_files::table(out, b, 1, boundaries, 1, 64);
-    let d = made_files::table(out, c, 2, lines, 1, 1);
-    let e = made_files::table(out, d, 3, signals, 1, 1);
-    let f = made_files::table(out, e, 4, crosswalks, 1, 1);
-    number(out, f, 0)
+    number(out, next, 0)
 }
 
 // 1,024 points, and one more of each kind.
-fn points_case(out: &mut [u8], i: u64) -> usize {
-    match i {
-        0 => points_file(out, 0, 16, 0, 0, 0),
-        1 => points_file(out, 20, 15, 20, 21, 1),
-        2 => points_file(out, 1, 16, 0, 0, 0),
-        3 => points_file(out, 0, 16, 1, 0, 0),
-        4 => points_file(out, 0, 16, 0, 1, 0),
-        _ => points_file(out, 21, 15, 20, 21, 1),
+pub fn points_in_all(trials: &mut Trials) -> Count {
+    for counts in [[0, 16, 0, 0, 0], [20, 15, 20, 21, 1]] {
+        trials.trial_made(Want::Accepted, |out| points_file(out, counts));
     }
+    for counts in [
+        [1, 16, 0, 0, 0],
+        [0, 16, 1, 0, 0],
+        [0, 16, 0, 1, 0],
+        [21, 15, 20, 21, 1],
+    ] {
+        trials.trial_made(Want::Refused, |out| points_file(out, counts));
+    }
+    trials.counted()
 }
 
-pub fn points_in_all(words: &mut [u64], coords: &mut [f64]) -> Count {
-    let mut work = [0u8; 32768];
-    let mut back = [0u8; 32768];
-    let mut c = file_trials::start(words, coords);
-    let mut i = 0u64;
-    while i < 6 {
-        let n = points_case(&mut work, i);
-        c = file_trials::trial_to(&work, n, words, coords, &mut back, asked_of(i / 2), c);
-        i += 1;
-    }
-    c
-}
-
-// A set file with so many entries in a list, or warnings.
-fn set_file(out: &mut [u8], list: u64, past: u64) -> usize {
-    let count = std::num::wrapping_add_u64(512, past);
-    match list {
-        0 => made_files::sets::set(out, count, 0, 0, 0),
-        1 => made_files::sets::set(out, 0, count, 0, 0),
-        2 => made_files::sets::set(out, 0, 0, count, 0),
-        _ => made_files::sets::set(out, 1, 0, 0, std::num::wrapping_add_u64(160, past)),
-    }
-}
-
-// Each list at its ceiling, and one past it.
-pub fn sets(words: &mut [u64], coords: &mut [f64]) -> Count {
-    let mut work = [0u8; 32768];
-    let mut back = [0u8; 32768];
-    let mut c = file_trials::start(words, coords);
-    let mut i = 0u64;
-    while i < 8 {
-        let n = set_file(&mut work, i / 2, i % 2);
-        c = file_trials::trial_to(&work, n, words, coords, &mut back, asked_of(i % 2), c);
-        i += 1;
-    }
-    c
+// The lists of a set, and its warnings.
+pub fn sets(trials: &mut Trials) -> Count {
+    at_ceiling(trials, 512, |out, count| set(out, count, 0, 0, 0));
+    at_ceiling(trials, 512, |out, count| set(out, 0, count, 0, 0));
+    at_ceiling(trials, 512, |out, count| set(out, 0, 0, count, 0));
+    at_ceiling(trials, 160, |out, count| set(out, 1, 0, 0, count));
+    trials.counted()
 }

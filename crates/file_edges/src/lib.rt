@@ -1,133 +1,94 @@
 // Coordinates and heights at the edge of the map, past it and not finite.
 #![tactic(auto)]
 
-use file_trials::Count;
-use made_files::{bytes, eight, number, part};
+use file_trials::{Count, Trials, Want};
+use made_files::{bytes, eight, number, worked_map};
 
-// Bits that are no number, infinite, past every height; then past 2^26 or below -2^26 by the least step, and far past it; then
-// those two edges, -0, the least double and the largest within the edge.
-fn pattern(j: u64) -> u64 {
-    match j {
-        0 => 0x7FF8000000000000,
-        1 => 0x7FF0000000000001,
-        2 => 0xFFF8000000000000,
-        3 => 0x7FFFFFFFFFFFFFFF,
-        4 => 0x7FF0000000000000,
-        5 => 0xFFF0000000000000,
-        6 => 0x4190000000000001,
-        7 => 0xC190000000000001,
-        8 => 0x7FEFFFFFFFFFFFFF,
-        9 => 0x4190000000000000,
-        10 => 0xC190000000000000,
-        11 => 0x8000000000000000,
-        12 => 1,
-        _ => 0x418FFFFFFFFFFFFF,
-    }
-}
+// Bits that are no number or infinite, past every height.
+const NOT_FINITE: [u64; 6] = [
+    0x7FF8000000000000,
+    0x7FF0000000000001,
+    0xFFF8000000000000,
+    0x7FFFFFFFFFFFFFFF,
+    0x7FF0000000000000,
+    0xFFF0000000000000,
+];
 
-// A coordinate is within 2^26, a height finite.
-fn asked_of(j: u64, height: bool) -> u64 {
-    if j < 6 {
-        return file_trials::REFUSED;
-    }
-    if height {
-        return file_trials::ACCEPTED;
-    }
-    if j < 9 {
-        return file_trials::REFUSED;
-    }
-    file_trials::ACCEPTED
-}
+// Past 2^26 or below -2^26 by the least step, and far past it.
+const OFF_THE_MAP: [u64; 3] = [0x4190000000000001, 0xC190000000000001, 0x7FEFFFFFFFFFFFFF];
 
-// Every pattern at a place of a file.
-fn patterns_at(
-    file: &[u8],
-    n: usize,
+// Those two edges, -0, the least double and the largest within the edge.
+const ON_THE_MAP: [u64; 5] = [
+    0x4190000000000000,
+    0xC190000000000000,
+    0x8000000000000000,
+    1,
+    0x418FFFFFFFFFFFFF,
+];
+
+// Each pattern at a place of a file.
+fn patterns_at<F: Fn(&mut [u8]) -> usize>(
+    trials: &mut Trials,
+    patterns: &[u64],
+    want: Want,
+    make: F,
     at: usize,
-    height: bool,
-    work: &mut [u8],
-    words: &mut [u64],
-    coords: &mut [f64],
-    back: &mut [u8],
-    before: Count,
-) -> Count {
-    let mut c = before;
-    part(work, 0, file, 0, n);
-    let mut j = 0u64;
-    while j < 14 {
-        eight(work, at, pattern(j));
-        c = file_trials::trial_to(work, n, words, coords, back, asked_of(j, height), c);
-        j += 1;
+)
+    requires { F.IsAlwaysCallable make }
+{
+    for bits in patterns {
+        trials.trial_made(want, |out| {
+            let size = make(out);
+            eight(out, at, *bits);
+            size
+        });
     }
-    c
 }
 
-// Where coordinate i of the worked map stands.
-fn place_of(i: usize) -> usize {
-    let k = i % 12;
-    if k < 6 { 12 + k * 8 } else { 14 + k * 8 }
+// A coordinate is within 2^26.
+fn coordinate_at<F: Fn(&mut [u8]) -> usize>(trials: &mut Trials, make: F, at: usize)
+    requires { F.IsAlwaysCallable make }
+{
+    patterns_at(trials, &NOT_FINITE, Want::Refused, &make, at);
+    patterns_at(trials, &OFF_THE_MAP, Want::Refused, &make, at);
+    patterns_at(trials, &ON_THE_MAP, Want::Accepted, &make, at);
 }
 
-pub fn worked(words: &mut [u64], coords: &mut [f64]) -> Count {
-    let mut file = [0u8; 256];
-    let mut work = [0u8; 256];
-    let mut back = [0u8; 256];
-    let n = made_files::worked_map(&mut file);
-    let mut c = file_trials::start(words, coords);
-    let mut i = 0;
-    while i < 12 {
-        c = patterns_at(
-            &file,
-            n,
-            place_of(i),
-            false,
-            &mut work,
-            words,
-            coords,
-            &mut back,
-            c,
-        );
-        i += 1;
+// A height is finite.
+fn height_at<F: Fn(&mut [u8]) -> usize>(trials: &mut Trials, make: F, at: usize)
+    requires { F.IsAlwaysCallable make }
+{
+    patterns_at(trials, &NOT_FINITE, Want::Refused, &make, at);
+    patterns_at(trials, &OFF_THE_MAP, Want::Accepted, &make, at);
+    patterns_at(trials, &ON_THE_MAP, Want::Accepted, &make, at);
+}
+
+// Where the coordinates of the worked map stand: of each of its two boundaries six.
+const WORKED: [usize; 12] = [12, 20, 28, 36, 44, 52, 62, 70, 78, 86, 94, 102];
+
+pub fn worked(trials: &mut Trials) -> Count {
+    for at in WORKED {
+        coordinate_at(trials, worked_map, at);
     }
-    c
+    trials.counted()
 }
 
-// A map with one signal that has a height and a bulb.
+// A map with one signal that has a height, at 10, and a bulb, whose position begins at 19.
 fn signal_file(out: &mut [u8]) -> usize {
     let next = number(out, 0, 1000);
-    let a = bytes(out, next, b"\x00\x00\x00\x01\x01\x00\x00\x01");
-    let height = eight(out, a, 0);
-    let b = number(out, height, 1);
-    let x = eight(out, b, 0);
+    let height = bytes(out, next, b"\x00\x00\x00\x01\x01\x00\x00\x01");
+    let count = eight(out, height, 0);
+    let x = number(out, count, 1);
     let y = eight(out, x, 0);
     let z = eight(out, y, 0);
-    bytes(out, z, b"\x00\x00\x00\x00")
+    let color = eight(out, z, 0);
+    bytes(out, color, b"\x00\x00\x00\x00")
 }
 
-// Its height, and the bulb's position.
-pub fn signal(words: &mut [u64], coords: &mut [f64]) -> Count {
-    let mut file = [0u8; 256];
-    let mut work = [0u8; 256];
-    let mut back = [0u8; 256];
-    let n = signal_file(&mut file);
-    let before = file_trials::start(words, coords);
-    let mut c = patterns_at(
-        &file, n, 10, true, &mut work, words, coords, &mut back, before,
-    );
-    let mut i = 0;
-    while i < 3 {
-        c = patterns_at(
-            &file,
-            n,
-            19 + i * 8,
-            false,
-            &mut work,
-            words,
-            coords,
-            &mut back,
-            c,
-        );
-        i += 1;
+pub fn signal(trials: &mut Trials) -> Count {
+    height_at(trials, signal_file, 10);
+    for at in [19, 27, 35] {
+        coordinate_at(trials, signal_file, at);
     }
-    c
+    trials.counted()
 }

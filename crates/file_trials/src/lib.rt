@@ -1,224 +1,265 @@
-// One file tried, for the programs that try many: read into lent tables and, where it is read, written back. Words of a set's
-// length are a set's table, for which coordinates have no meaning; others are a map's. What is right is counted, and shown by
-// the programs; proved is that every call is safe and ends.
+// Files tried, for the programs that try many: each is read into tables and, where it is read, written back. What is right is counted,
+// and shown by the programs; proved is that every call is safe and ends.
 #![tactic(auto)]
 
-use changes::layout;
-use files::{ChangesRead, MapRead, Written};
-use made_files::get;
+ghost use Rattle.std.specs.Prelude.{◌≡◌, ◌≤◌, IfOk};
 
-// How many files were tried, refused and accepted, and how many answers were wrong. The sum tells altered tables.
-#[derive(Clone, Copy)]
+use refusal::Refusal;
+use sample_text::bytes::bits_of;
+use std::alloc::{AllocError, Global};
+use std::fmt;
+
+// Room for a file.
+pub const ROOM: usize = 49152;
+
+const MAP_WORDS: usize = 13671;
+
+const MAP_COORDS: usize = 105280;
+
+const SET_WORDS: usize = 3556;
+
+// What stands in the room of a file that is yet to be written.
+const PAINT: u8 = 165;
+
+// Which answer is right; no Result, as nothing goes with it and either may be.
+#[derive(Clone, Copy, PartialEq, Eq)]
+pub enum Want {
+    Either,
+    Accepted,
+    Refused,
+}
+
+// How many files were tried, refused and accepted, and how many answers were wrong.
+#[derive(Clone, Copy, Default)]
 pub struct Count {
     pub tried: u64,
     pub refused: u64,
     pub accepted: u64,
     pub wrong: u64,
-    pub sum: u64,
 }
 
-// Which answer is right.
-pub const EITHER: u64 = 0;
-
-pub const ACCEPTED: u64 = 1;
-
-pub const REFUSED: u64 = 2;
-
-// 0 and the file's size, or the refusal's number.
-#[derive(Drop)]
-pub struct Wrote {
-    pub why: u64,
-    pub size: usize,
-}
-
-fn words_sum(words: &[u64]) -> u64 {
-    let mut sum = 0u64;
-    let mut i = 0;
-    while i < words.len() {
-        sum = std::num::wrapping_add_u64(sum, words[i] ^ (i as u64));
-        i += 1;
+impl Count {
+    // One answer more.
+    fn add(&mut self, is_refused: bool, is_right: bool)
+        ensures { self.old.tried ≤ self.new.tried }
+    {
+        self.tried = self.tried.saturating_add(1);
+        self.refused = self.refused.saturating_add(is_refused as u64);
+        self.accepted = self.accepted.saturating_add(!is_refused as u64);
+        self.wrong = self.wrong.saturating_add(!is_right as u64);
     }
-    sum
 }
 
-fn coords_sum(coords: &[f64], from: u64) -> u64 {
+impl fmt::Display for Count {
+    fn fmt<W: fmt::Write>(&self, f: &mut fmt::Formatter<W>) -> fmt::Result {
+        write!(
+            f,
+            "tried {}, refused {}, accepted {}, wrong {}",
+            self.tried, self.refused, self.accepted, self.wrong
+        )
+    }
+}
+
+// What stands in a table, as a number.
+trait Bits: Copy {
+    fn bits(self) -> u64;
+}
+
+impl Bits for u64 {
+    fn bits(self) -> u64 {
+        self
+    }
+}
+
+impl Bits for f64 {
+    fn bits(self) -> u64 {
+        bits_of(self)
+    }
+}
+
+// What stands in a table in one number, from another's on. A loop: a fold with a closure took five times as long.
+fn sum_of<T: Bits>(table: &[T], from: u64) -> u64 {
     let mut sum = from;
-    let mut i = 0;
-    while i < coords.len() {
-        let bits = sample_text::bytes::bits_of(coords[i]);
-        sum = std::num::wrapping_add_u64(sum, bits ^ (i as u64));
-        i += 1;
+    for value in table {
+        sum = sum.wrapping_mul(31).wrapping_add(value.bits());
     }
     sum
 }
 
-fn sum_of(words: &[u64], coords: &[f64]) -> u64 {
-    let sum = words_sum(words);
-    if words.len() == layout::WORDS {
-        return sum;
-    }
-    coords_sum(coords, sum)
+// The tables that files are read into: a map's, or a set's, for which coordinates have no meaning.
+#[derive(Drop)]
+enum Tables {
+    Map { words: Vec<u64>, coords: Vec<f64> },
+    Set(Vec<u64>),
 }
 
-pub fn is_set(words: &[u64]) -> bool {
-    words.len() == layout::WORDS
-}
+impl Tables {
+    fn read(&mut self, file: &[u8]) -> Result<(), Refusal> {
+        match self {
+            Tables::Map { words, coords } => reader::read_map_file(file, words, coords),
+            Tables::Set(set) => reader::read_changes_file(file, set),
+        }
+    }
 
-pub fn start(words: &[u64], coords: &[f64]) -> Count {
-    Count {
-        tried: 0,
-        refused: 0,
-        accepted: 0,
-        wrong: 0,
-        sum: sum_of(words, coords),
+    fn write(&self, buffer: &mut [u8]) -> Result<usize, Refusal> {
+        match self {
+            Tables::Map { words, coords } => files::write_map(words, coords, buffer),
+            Tables::Set(set) => files::write_changes(set, buffer),
+        }
+    }
+
+    // Tells altered tables.
+    fn sum(&self) -> u64 {
+        match self {
+            Tables::Map { words, coords } => sum_of(coords, sum_of(words, 0)),
+            Tables::Set(set) => sum_of(set, 0),
+        }
+    }
+
+    // Whether what is no file of this kind is refused so.
+    fn is_refusal(&self, why: Refusal) -> bool {
+        match self {
+            Tables::Map { .. } => matches!(why, Refusal::BadMap),
+            Tables::Set(_) => matches!(why, Refusal::BadSet),
+        }
+    }
+
+    // Whether what was read is written back as the same bytes.
+    fn is_written_back(&self, file: &[u8], back: &mut [u8]) -> bool {
+        self.write(back)
+            .is_ok_and(|size| back.get(..size) == Some(file))
+    }
+
+    // A file tried: refused with the tables as they were, or read and written back.
+    fn trial(&mut self, file: &[u8], back: &mut [u8], want: Want, count: &mut Count)
+        ensures { count.old.tried ≤ count.new.tried }
+    {
+        let before = self.sum();
+        match self.read(file) {
+            Err(why) => {
+                let is_right = want != Want::Accepted && self.is_refusal(why);
+                count.add(true, is_right && self.sum() == before);
+            }
+            Ok(()) => {
+                let is_right = want != Want::Refused && self.is_written_back(file, back);
+                count.add(false, is_right);
+            }
+        }
     }
 }
 
-// One answer more: a refusal or not, right or not, and the sum of the tables after it.
-pub fn counted(c: Count, refused: bool, right: bool, sum: u64) -> Count {
-    let tried = std::num::wrapping_add_u64(c.tried, 1);
-    let mut wrong = c.wrong;
-    if !right {
-        wrong = std::num::wrapping_add_u64(wrong, 1);
+// Tables, with room for a file that is made and for one that is written; and what came of the files so far.
+#[derive(Drop)]
+pub struct Trials {
+    tables: Tables,
+    work: Vec<u8>,
+    back: Vec<u8>,
+    pub count: Count,
+}
+
+impl Trials {
+    fn over(alloc: Global, tables: Tables) -> Result<Trials, AllocError>
+        ensures { IfOk result (λ t. t.count.tried ≡ 0) }
+    {
+        Ok(Trials {
+            tables,
+            work: vec![in alloc; 0; ROOM]?,
+            back: vec![in alloc; 0; ROOM]?,
+            count: Count {
+                tried: 0,
+                refused: 0,
+                accepted: 0,
+                wrong: 0,
+            },
+        })
     }
-    if refused {
-        return Count {
-            tried,
-            refused: std::num::wrapping_add_u64(c.refused, 1),
-            accepted: c.accepted,
-            wrong,
-            sum,
+
+    pub fn of_maps(alloc: Global) -> Result<Trials, AllocError>
+        ensures { IfOk result (λ t. t.count.tried ≡ 0) }
+    {
+        let words = vec![in alloc; 0; MAP_WORDS]?;
+        let coords = vec![in alloc; 0.0; MAP_COORDS]?;
+        Trials::over(alloc, Tables::Map { words, coords })
+    }
+
+    pub fn of_sets(alloc: Global) -> Result<Trials, AllocError>
+        ensures { IfOk result (λ t. t.count.tried ≡ 0) }
+    {
+        let set = vec![in alloc; 0; SET_WORDS]?;
+        Trials::over(alloc, Tables::Set(set))
+    }
+
+    pub fn is_of_sets(&self) -> bool {
+        matches!(self.tables, Tables::Set(_))
+    }
+
+    // What came of the files since this was asked last.
+    pub fn counted(&mut self) -> Count
+        ensures { result ≡ self.old.count }
+    {
+        std::mem::take(&mut self.count)
+    }
+
+    // One file tried.
+    pub fn trial(&mut self, file: &[u8], want: Want)
+        ensures { self.old.count.tried ≤ self.new.count.tried }
+    {
+        self.tables
+            .trial(file, &mut self.back, want, &mut self.count);
+    }
+
+    // The same of a file that is made in the room for one: how many bytes it has, the closure answers.
+    pub fn trial_made<F: FnOnce(&mut [u8]) -> usize>(&mut self, want: Want, make: F)
+        requires { F.IsAlwaysCallable make }
+        ensures { self.old.count.tried ≤ self.new.count.tried }
+    {
+        let size = make(&mut self.work);
+        let file = self.work.get(..size).unwrap_or(&[]);
+        self.tables
+            .trial(file, &mut self.back, want, &mut self.count);
+    }
+
+    // The file that was read last, written into so many bytes: where they are too few nothing is written, else nothing after it.
+    pub fn trial_written(&mut self, file: &[u8], size: usize)
+        ensures { self.old.count.tried ≤ self.new.count.tried }
+    {
+        self.back.fill(PAINT);
+        let written = match self.back.as_mut_slice().get_mut(..size) {
+            Some(room) => self.tables.write(room),
+            None => Err(Refusal::ShortBuffer),
         };
+        let is_right = match written {
+            Ok(n) => self.back.get(..n) == Some(file) && self.is_painted(n),
+            Err(why) => {
+                size < file.len() && matches!(why, Refusal::ShortBuffer) && self.is_painted(0)
+            }
+        };
+        self.count.add(written.is_err(), is_right);
     }
-    Count {
-        tried,
-        refused: c.refused,
-        accepted: std::num::wrapping_add_u64(c.accepted, 1),
-        wrong,
-        sum,
+
+    // Whether nothing is written from there on.
+    fn is_painted(&self, from: usize) -> bool {
+        let rest = self.back.get(from..).unwrap_or(&[]);
+        rest.iter().all(|b| *b == PAINT)
     }
 }
 
-fn read_set(file: &[u8], words: &mut [u64]) -> u64 {
-    let read = reader::read_changes_file(file, words);
-    match read {
-        ChangesRead::Done => 0,
-        ChangesRead::Refused(why) => refusal::number(why),
-    }
-}
+#[cfg(test)]
+mod tests {
+    use super::*;
+    use std::test::Fail;
 
-fn read_map(file: &[u8], words: &mut [u64], coords: &mut [f64]) -> u64 {
-    let read = reader::read_map_file(file, words, coords);
-    match read {
-        MapRead::Done => 0,
-        MapRead::Refused(why) => refusal::number(why),
+    // A file that is read and one that is cut short, of both kinds.
+    #[test]
+    fn there_is_room(rt: HostRuntime) -> Result<(), Fail> {
+        let mut maps = Trials::of_maps(rt.alloc())?;
+        let mut sets = Trials::of_sets(rt.alloc())?;
+        maps.trial(b"\x01\x00\x00\x00\x00\x00\x00", Want::Accepted);
+        maps.trial(b"\x01\x00", Want::Refused);
+        sets.trial(b"\x00\x00\x00\x00", Want::Accepted);
+        sets.trial(b"\x00\x00", Want::Refused);
+        assert_eq!(rt; maps.counted().wrong, 0);
+        assert_eq!(rt; sets.counted().accepted, 1);
+        Ok(())
     }
-}
-
-// 0, or the refusal's number.
-fn read(file: &[u8], words: &mut [u64], coords: &mut [f64]) -> u64 {
-    if words.len() == layout::WORDS {
-        return read_set(file, words);
-    }
-    read_map(file, words, coords)
-}
-
-fn outcome(written: Written) -> Wrote {
-    match written {
-        Written::Done(size) => Wrote { why: 0, size },
-        Written::Refused(why) => Wrote {
-            why: refusal::number(why),
-            size: 0,
-        },
-    }
-}
-
-fn write(words: &[u64], coords: &[f64], buffer: &mut [u8]) -> Wrote {
-    if words.len() == layout::WORDS {
-        let set = files::write_changes(words, buffer);
-        return outcome(set);
-    }
-    let map = files::write_map(words, coords, buffer);
-    outcome(map)
-}
-
-// The same into the first bytes of a buffer.
-pub fn write_to(words: &[u64], coords: &[f64], buffer: &mut [u8], size: usize) -> Wrote {
-    if buffer.len() < size {
-        return Wrote { why: 15, size: 0 };
-    }
-    write(words, coords, &mut buffer[..size])
-}
-
-// Whether a file of so many bytes is the first of a buffer.
-pub fn same(file: &[u8], n: usize, buffer: &[u8], size: usize) -> bool {
-    if n != size {
-        return false;
-    }
-    let mut i = 0;
-    while i < n {
-        if get(file, i) != get(buffer, i) {
-            return false;
-        }
-        i += 1;
-    }
-    true
-}
-
-// What was read is written back as the same bytes.
-fn written_back(file: &[u8], words: &[u64], coords: &[f64], back: &mut [u8]) -> bool {
-    let w = write(words, coords, back);
-    if w.why != 0 {
-        return false;
-    }
-    same(file, file.len(), back, w.size)
-}
-
-// The refusal that a file's kind has, and the tables as they were.
-fn refused_well(words: &[u64], why: u64, before: u64, after: u64) -> bool {
-    if before != after {
-        return false;
-    }
-    if words.len() == layout::WORDS {
-        return why == 13;
-    }
-    why == 12
-}
-
-pub fn trial(
-    file: &[u8],
-    words: &mut [u64],
-    coords: &mut [f64],
-    back: &mut [u8],
-    want: u64,
-    c: Count,
-) -> Count {
-    let why = read(file, words, coords);
-    let sum = sum_of(words, coords);
-    if why != 0 {
-        if want == ACCEPTED {
-            return counted(c, true, false, sum);
-        }
-        return counted(c, true, refused_well(words, why, c.sum, sum), sum);
-    }
-    if want == REFUSED {
-        return counted(c, false, false, sum);
-    }
-    counted(c, false, written_back(file, words, coords, back), sum)
-}
-
-// The first n bytes tried.
-pub fn trial_to(
-    file: &[u8],
-    n: usize,
-    words: &mut [u64],
-    coords: &mut [f64],
-    back: &mut [u8],
-    want: u64,
-    c: Count,
-) -> Count {
-    if file.len() < n {
-        return c;
-    }
-    trial(&file[..n], words, coords, back, want, c)
 }

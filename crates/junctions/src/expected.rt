@@ -2,49 +2,61 @@
 use crate::notation::{Line, print_place};
 use crate::state::{Due, State};
 use call_list::Reply;
-use files::Written;
-use place::{EndName, MaybeEnds};
-use request_calls::{expect_ends, expect_set, line_over, refused_as};
-use sample_text::expect_number;
+use place::{EndName, SectionNames};
+use request_calls::{Memory, Stored, Told, refused_as};
 use std::{fmt, io};
 
 // Where an expectation's name stands.
 const NAME: usize = 2;
 
 // The ends behind the set's bytes; a line that says nothing of them expects none in particular.
-fn as_named(text: &[u8], at: usize, r: Reply) -> bool {
-    line_over(text, at) || line_over(text, expect_ends(text, at, r))
+fn as_named(mut stored: Stored<'_>, r: Reply) -> bool {
+    if stored.is_over() {
+        return true;
+    }
+    stored.ends(r.ends);
+    stored.is_over()
 }
 
-// Where the word after `done` starts, if that is the word that stands there.
-fn after_done(line: Line<'_>, at: usize) -> Option<usize> {
+// What stands behind the word `done`, if that is the word that stands there.
+fn after_done(line: Line<'_>, at: usize) -> Option<Stored<'_>> {
     match line.word(at) {
-        b"done" => Some(at.saturating_add(5)),
+        b"done" => Some(stored(line, at.saturating_add(5))),
         _ => None,
     }
 }
 
+fn stored(line: Line<'_>, at: usize) -> Stored<'_> {
+    Stored {
+        text: line.text,
+        at,
+    }
+}
+
 // `done`, the number of the record, the set's bytes and the ends, or the refusal.
-fn as_answered(line: Line<'_>, at: usize, r: Reply, set: &[u64], buffer: &mut [u8]) -> bool {
+fn as_answered(line: Line<'_>, at: usize, r: Reply, memory: &mut Memory) -> bool {
     if r.what != 0 {
         return refused_as(line.text, at, r);
     }
-    let Some(number) = after_done(line, at) else {
+    let Some(mut stored) = after_done(line, at) else {
         return false;
     };
-    let bytes = expect_number(line.text, number, r.number);
-    as_named(line.text, expect_set(line.text, bytes, set, buffer), r)
+    stored.number(r.number);
+    stored.set(&memory.set, &mut memory.buffer);
+    as_named(stored, r)
+}
+
+fn as_fold(mut stored: Stored<'_>, memory: &mut Memory) -> bool {
+    stored.set(&memory.fold, &mut memory.buffer);
+    stored.is_over()
 }
 
 // Whether what came is what stands from `at` on.
 fn as_written(line: Line<'_>, at: usize, state: &mut State) -> bool {
     match state.due {
-        Due::Answer(r) | Due::Refused(r) => as_answered(line, at, r, &state.set, &mut state.buffer),
-        Due::Fold => line_over(
-            line.text,
-            expect_set(line.text, at, &state.fold, &mut state.buffer),
-        ),
-        Due::Opened => after_done(line, at).is_some_and(|next| line_over(line.text, next)),
+        Due::Answer(r) | Due::Refused(r) => as_answered(line, at, r, &mut state.memory),
+        Due::Fold => as_fold(stored(line, at), &mut state.memory),
+        Due::Opened => after_done(line, at).is_some_and(|stored| stored.is_over()),
         Due::Nothing | Due::Unread => false,
     }
 }
@@ -65,17 +77,8 @@ impl fmt::Display for Hex<'_> {
 // A set's file.
 fn print_set(rt: &impl Print, set: &[u64], buffer: &mut [u8]) -> io::Result<()> {
     match files::write_changes(set, buffer) {
-        Written::Done(n) => print!(rt; "{}", Hex(buffer.get(..n).unwrap_or(&[]))),
-        Written::Refused(_) => Ok(()),
-    }
-}
-
-// A refusal as an expectation has it.
-fn print_refusal(rt: &impl Print, r: Reply) -> io::Result<()> {
-    match r.what {
-        2 => print!(rt; "refused 2 {} {}", r.detail, r.second),
-        3..9 => print!(rt; "refused {} {}", r.what, r.detail),
-        _ => print!(rt; "refused {}", r.what),
+        Ok(n) => print!(rt; "{}", Hex(buffer.get(..n).unwrap_or(&[]))),
+        Err(_) => Ok(()),
     }
 }
 
@@ -83,8 +86,8 @@ fn print_end(rt: &impl Print, end: EndName) -> io::Result<()> {
     print!(rt; " {} {}", end.lane, end.side as u8)
 }
 
-fn print_ends(rt: &impl Print, ends: MaybeEnds) -> io::Result<()> {
-    let MaybeEnds::At(names) = ends else {
+fn print_ends(rt: &impl Print, ends: Option<SectionNames>) -> io::Result<()> {
+    let Some(names) = ends else {
         return print!(rt; " -");
     };
     print!(rt; " +")?;
@@ -93,19 +96,21 @@ fn print_ends(rt: &impl Print, ends: MaybeEnds) -> io::Result<()> {
 }
 
 fn print_answer(rt: &impl Print, r: Reply, set: &[u64], buffer: &mut [u8]) -> io::Result<()> {
+    print!(rt; "{}", Told(r))?;
     if r.what != 0 {
-        return print_refusal(rt, r);
+        return Ok(());
     }
-    print!(rt; "done {} ", r.number)?;
+    print!(rt; " ")?;
     print_set(rt, set, buffer)?;
     print_ends(rt, r.ends)
 }
 
 // What came, in the notation of expectations.
 fn print_came(rt: &impl Print, state: &mut State) -> io::Result<()> {
+    let memory = &mut state.memory;
     match state.due {
-        Due::Answer(r) | Due::Refused(r) => print_answer(rt, r, &state.set, &mut state.buffer),
-        Due::Fold => print_set(rt, &state.fold, &mut state.buffer),
+        Due::Answer(r) | Due::Refused(r) => print_answer(rt, r, &memory.set, &mut memory.buffer),
+        Due::Fold => print_set(rt, &memory.fold, &mut memory.buffer),
         Due::Opened => print!(rt; "done"),
         Due::Nothing | Due::Unread => print!(rt; "no answer"),
     }

@@ -9,12 +9,13 @@ mod state;
 
 use call_list::Reply;
 use notation::{Command, Line, print_blank, print_fault, print_place, print_quoted};
-use place::{EndName, LaneSide, MaybeEnds};
+use place::{EndName, LaneSide, SectionNames};
 use printing::answers::{Answer, End, Refusal, Side};
 use printing::map::Map;
 use printing::requests::Request;
 use printing::sets::{ChangeSet, Tally};
 use printing::{Entry, Kind};
+use request_calls::{Call, reply};
 use state::{Due, State};
 use std::alloc::Global;
 use std::fs::File;
@@ -34,14 +35,11 @@ fn say(rt: &impl Print, line: Line<'_>) -> io::Result<()> {
 
 // The request in words.
 fn print_request(rt: &impl Print, line: Line<'_>) -> io::Result<()> {
-    let mut row = [0u64; requests::ROW];
-    let mut lists = [0u64; requests::LISTS];
-    let mut reals = [0.0; requests::REALS];
-    requests::request_into(line.text, 0, &mut row, &mut lists, &mut reals);
+    let call = Call::read(line.text, 0);
     let request = Request {
-        row: &row,
-        lists: &lists,
-        reals: &reals,
+        row: &call.row,
+        lists: &call.lists,
+        reals: &call.reals,
     };
     println!(rt; "{request}")
 }
@@ -80,8 +78,8 @@ fn end(name: EndName) -> End {
 }
 
 // The ends of a line, where they are named.
-fn print_ends(rt: &impl Print, ends: MaybeEnds) -> io::Result<()> {
-    let MaybeEnds::At(names) = ends else {
+fn print_ends(rt: &impl Print, ends: Option<SectionNames>) -> io::Result<()> {
+    let Some(names) = ends else {
         return Ok(());
     };
     println!(rt; "  left end: {}", end(names.left))?;
@@ -90,28 +88,18 @@ fn print_ends(rt: &impl Print, ends: MaybeEnds) -> io::Result<()> {
 
 // An edit, carried out.
 fn edit(rt: &impl Print, line: Line<'_>, kind: Kind, state: &mut State) -> io::Result<()> {
-    let carried = request_calls::carry(
-        line.text,
-        0,
-        &mut state.words,
-        &mut state.coords,
-        &mut state.fold,
-        state.tally,
-        &mut state.set,
-    );
-    let r = carried.reply;
-    state.tally = carried.tally;
+    let r = state.memory.carry(line.text, 0);
     state.due = Due::Answer(r);
     let answer = in_words(kind, r);
     println!(rt; "{answer}")?;
     match answer {
         Answer::Done(_) => {
             print_ends(rt, r.ends)?;
-            print!(rt; "{}", ChangeSet(&state.set))
+            print!(rt; "{}", ChangeSet(&state.memory.set))
         }
         Answer::Refused(_) => Ok(()),
         Answer::NoCall => {
-            state.due = Due::Refused(request_calls::reply(255));
+            state.due = Due::Refused(reply(255));
             print!(rt; "    ")?;
             print_place(rt, line)?;
             println!(rt; "a number is none of its cases, or a list is too long")
@@ -122,7 +110,7 @@ fn edit(rt: &impl Print, line: Line<'_>, kind: Kind, state: &mut State) -> io::R
 fn edit_line(rt: &impl Print, line: Line<'_>, kind: Kind, state: &mut State) -> io::Result<()> {
     print_request(rt, line)?;
     if !state.is_open {
-        state.due = Due::Refused(request_calls::reply(12));
+        state.due = Due::Refused(reply(12));
         return print_not_open(rt, line);
     }
     edit(rt, line, kind, state)
@@ -130,17 +118,7 @@ fn edit_line(rt: &impl Print, line: Line<'_>, kind: Kind, state: &mut State) -> 
 
 // A map file, opened: a run begins.
 fn open(rt: &impl Print, line: Line<'_>, state: &mut State) -> io::Result<()> {
-    let carried = request_calls::open(
-        line.text,
-        4,
-        &mut state.buffer,
-        &mut state.words,
-        &mut state.coords,
-        &mut state.fold,
-        state.tally,
-    );
-    let r = carried.reply;
-    state.tally = carried.tally;
+    let r = state.memory.open(line.text, 4);
     state.is_open = r.what == 0;
     if state.is_open {
         state.due = Due::Opened;
@@ -156,11 +134,11 @@ fn open(rt: &impl Print, line: Line<'_>, state: &mut State) -> io::Result<()> {
 fn fold(rt: &impl Print, line: Line<'_>, state: &mut State) -> io::Result<()> {
     println!(rt; "running fold")?;
     if !state.is_open {
-        state.due = Due::Refused(request_calls::reply(12));
+        state.due = Due::Refused(reply(12));
         return print_not_open(rt, line);
     }
     state.due = Due::Fold;
-    print!(rt; "{}", ChangeSet(&state.fold))
+    print!(rt; "{}", ChangeSet(&state.memory.fold))
 }
 
 // The running fold, the tally and the map.
@@ -171,17 +149,17 @@ fn show(rt: &impl Print, line: Line<'_>, state: &mut State) -> io::Result<()> {
         return print_not_open(rt, line);
     }
     let tally = Tally {
-        created: state.tally.created,
-        modified: state.tally.modified,
-        deleted: state.tally.deleted,
+        created: state.memory.tally.created,
+        modified: state.memory.tally.modified,
+        deleted: state.memory.tally.deleted,
     };
     let map = Map {
-        words: &state.words,
-        coords: &state.coords,
+        words: &state.memory.words,
+        coords: &state.memory.coords,
     };
     print!(rt;
         "running fold\n{}{tally}\nmap\n{map}",
-        ChangeSet(&state.fold)
+        ChangeSet(&state.memory.fold)
     )
 }
 

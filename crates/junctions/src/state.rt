@@ -1,16 +1,7 @@
 // What a run has come to, line by line.
 use call_list::Reply;
-use changes::Tally;
+use request_calls::Memory;
 use std::alloc::{AllocError, Global};
-
-// How many words and coordinates a map's tables have, and how many words a set's; and room for a file that a line gives or a set makes.
-const MAP_WORDS: usize = 13671;
-
-const MAP_COORDS: usize = 105280;
-
-const SET_WORDS: usize = 3556;
-
-const FILE_BYTES: usize = 262144;
 
 // What the next line may expect.
 #[derive(Clone, Copy)]
@@ -31,13 +22,7 @@ pub enum Due {
 // The memory that calls are lent, and what has been answered.
 #[derive(Drop)]
 pub struct State {
-    pub words: Vec<u64>,
-    pub coords: Vec<f64>,
-    pub fold: Vec<u64>,
-    pub set: Vec<u64>,
-    // room for a file
-    pub buffer: Vec<u8>,
-    pub tally: Tally,
+    pub memory: Memory,
     pub is_open: bool,
     pub due: Due,
     // how many answers were not as expected
@@ -47,16 +32,7 @@ pub struct State {
 impl State {
     pub fn new(alloc: Global) -> Result<State, AllocError> {
         Ok(State {
-            words: vec![in alloc; 0; MAP_WORDS]?,
-            coords: vec![in alloc; 0.0; MAP_COORDS]?,
-            fold: vec![in alloc; 0; SET_WORDS]?,
-            set: vec![in alloc; 0; SET_WORDS]?,
-            buffer: vec![in alloc; 0; FILE_BYTES]?,
-            tally: Tally {
-                created: 0,
-                modified: 0,
-                deleted: 0,
-            },
+            memory: Memory::new(alloc)?,
             is_open: false,
             due: Due::Nothing,
             wrong: 0,

@@ -1,8 +1,0 @@
-use Rattle.std.proofs.Common.{arith, length-set}
-use Rattle.file_damages.proofs.paint.Goals as goal
-
-pub loop-i-smaller : goal.loop-i-smaller
-loop-i-smaller c = simp length-set (omega arith)
-
-pub loop-i-preserved : goal.loop-i-preserved
-loop-i-preserved c = simp length-set (omega arith)
