@@ -77,6 +77,7 @@ pub fn bulb_arrow_of(n: u64) -> BulbArrow
 }
 
 // How lamp i of four looks.
+#[tactic(auto, unfolding(crate::specs::Numbers::look_at))]
 fn look_at(ns: &[u64], i: usize) -> Look
     requires { (length ns.now ≡ 17) × (i < 4) }
     ensures { result ≡ look_at ns.now i }
@@ -121,6 +122,7 @@ fn lamps_of(ns: &[u64]) -> Lamps
 }
 
 // A light's request: its seventeen numbers, the offset or station of a new line, and the height.
+#[tactic(auto, unfolding(crate::specs::Numbers::request_of))]
 pub fn request_of(ns: &[u64], measure: f64, height: f64) -> SignalRequest
     requires { length ns.now ≡ 17 }
     ensures { result ≡ request_of ns.now measure height }
@@ -138,29 +140,22 @@ pub fn request_of(ns: &[u64], measure: f64, height: f64) -> SignalRequest
 }
 
 // Whether the colour and the arrow of lamp i are cases.
+#[tactic(auto, unfolding(crate::specs::Numbers::look_cases))]
 fn look_cases(ns: &[u64], i: usize) -> bool
     requires { (length ns.now ≡ 17) × (i < 4) }
     ensures { result ≡ look_cases ns.now i }
 {
     let n = 7 + i * 2;
-    if 3 < ns[n] {
-        return false;
-    }
-    ns[n + 1] < 9
+    ns[n] < 4 && ns[n + 1] < 9
 }
 
 // The same of n lamps, where they are given and lamp i is one of them.
+#[tactic(auto, unfolding(crate::specs::Numbers::lamp_cases))]
 fn lamp_cases(ns: &[u64], n: u64, i: usize) -> bool
     requires { (length ns.now ≡ 17) × (i < 4) }
     ensures { result ≡ lamp_cases ns.now n i }
 {
-    if ns[6] == 0 {
-        return true;
-    }
-    if n <= i as u64 {
-        return true;
-    }
-    look_cases(ns, i)
+    ns[6] == 0 || n <= i as u64 || look_cases(ns, i)
 }
 
 // The same of all lamps.
@@ -168,41 +163,21 @@ fn all_lamp_cases(ns: &[u64], n: u64) -> bool
     requires { length ns.now ≡ 17 }
     ensures { result ≡ (lamp_cases ns.now n 0 && lamp_cases ns.now n 1 && lamp_cases ns.now n 2 && lamp_cases ns.now n 3) }
 {
-    if !lamp_cases(ns, n, 0) {
-        return false;
-    }
-    if !lamp_cases(ns, n, 1) {
-        return false;
-    }
-    if !lamp_cases(ns, n, 2) {
-        return false;
-    }
-    lamp_cases(ns, n, 3)
+    lamp_cases(ns, n, 0) && lamp_cases(ns, n, 1) && lamp_cases(ns, n, 2) && lamp_cases(ns, n, 3)
 }
 
 // Whether the placement of a light's line is a case, where the line is new.
 fn placement_case(choice: u64, placement: u64) -> bool
     ensures { result ≡ (not (eqb choice 2) || ltb placement 3) }
 {
-    if choice != 2 {
-        return true;
-    }
-    placement < 3
+    choice != 2 || placement < 3
 }
 
 // Whether each number of a light's request that is read and stands for an enum is a case of it, for n lamps.
+#[tactic(auto, unfolding(crate::specs::Numbers::signal_cases))]
 pub fn signal_cases(ns: &[u64], n: u64) -> bool
     requires { length ns.now ≡ 17 }
     ensures { result ≡ signal_cases ns.now n }
 {
-    if 3 < ns[0] {
-        return false;
-    }
-    if !placement_case(ns[0], ns[2]) {
-        return false;
-    }
-    if 1 < ns[5] {
-        return false;
-    }
-    all_lamp_cases(ns, n)
+    ns[0] < 4 && placement_case(ns[0], ns[2]) && ns[5] < 2 && all_lamp_cases(ns, n)
 }

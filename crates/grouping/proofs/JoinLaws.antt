@@ -90,39 +90,6 @@ module _ (ls lanes : List ℕ) (count : ℕ) (entries : List ℕ) (k : ℕ) (inv
           goes = rw (e, append_assoc) (ap (λ (r : List ℕ). take count entries ++ r) (sym (comes t)) ∙ inv.goes);
         }
 
--- ---- one signal more
-
-module _ (row : List ℕ) (e : Entries) (read : ListRead row 41 e) (few : get_or row 41 0 < 16) (x : ℕ) where
-  pub signals_long : e.count + 1 ≤ length (set e.entries e.count x)
-  signals_long = omega (arith, length-set e.entries e.count x, read.room, read.count)
-
-  pub signals_part : e.count + 1 ≡ length (take (e.count + 1) (set e.entries e.count x))
-  signals_part = omega (arith, length-take (e.count + 1) (set e.entries e.count x), signals_long)
-
-  signals_are : take (e.count + 1) (set e.entries e.count x) ≡ list_at row 41 ++ (x ∷ [])
-  signals_are = rw (add-one e.count) (take-suc-set e.entries e.count x (omega (arith, read.room, read.count)) ∙ rw read.entries)
-
-  pub signals_put : (ws : List ℕ) (i : ℕ) (ws' : List ℕ) → RulePut ws i (with_list row 41 (take (e.count + 1) (set e.entries e.count x))) ws' → RulePut ws i (with_list row 41 (list_at row 41 ++ (x ∷ []))) ws'
-  signals_put ws i ws' p = rw signals_are at p
-
--- ---- the line
-
-module _ (h : RuleHead) where
-  pub own_line : h.has_line ≡ true → Some h.line ≡ cond h.has_line (Some h.line) None
-  own_line t = rw t
-
-module _ (a b : Option ℕ) where
-  pub first_some : (s : ℕ) → a ≡ Some s → Some s ≡ or_else a b
-  first_some s q = rw q
-
-module _ (l : Option ℕ) where
-  pub words_some : (s : ℕ) → l ≡ Some s → Some s ≡ l
-  words_some s q = rw q
-
-pub line_kept : (h : RuleHead) (line own first : Option ℕ) (w : LineWords) → own ≡ cond h.has_line (Some h.line) None
-    → first ≡ or_else own line → line_words w ≡ first → LineKept h line w
-line_kept h line own first w eo ef ew = record { answer = ew ∙ ef ∙ ap (λ (o : Option ℕ). or_else o line) eo }
-
 -- ---- the rule put
 
 pub put_sized : (ws : List ℕ) (i : ℕ) (r ws' : List ℕ) → RulePut ws i r ws' → SizedWords ws'

@@ -20,6 +20,7 @@ pub struct LineWords {
 }
 
 // The lanes of rule i, and those given that it lacks. A count above 16 says that they do not fit.
+#[tactic(auto, using(crate::proofs::JoinLaws::join_skip, crate::proofs::JoinLaws::join_full, crate::proofs::JoinLaws::join_end))]
 pub fn joined_lanes(words: &[u64], i: usize, lanes: &[u64]) -> Entries
     requires { ReadableWords words.now × (i < count_of words.now 5) }
     ensures { JoinedRead (list_at (row_of words.now 5 i) 7) lanes.now result }
@@ -28,17 +29,14 @@ pub fn joined_lanes(words: &[u64], i: usize, lanes: &[u64]) -> Entries
     let listed = lookup::rule_list(words, i, 7);
     let mut count = start.count;
     let mut entries = start.entries;
-    let mut k = 0;
-    while k < lanes.len() {
-        let n = lanes[k];
-        k += 1;
-        if member(listed, 0, n) {
+    for n in lanes {
+        if member(listed, 0, *n) {
             continue;
         }
         if 16 <= count {
             return Entries { count: 17, entries };
         }
-        entries[count] = n;
+        entries[count] = *n;
         count += 1;
     }
     Entries { count, entries }
@@ -60,28 +58,22 @@ fn put_signal(words: &mut [u64], i: usize, signal: u64)
 fn own_line(h: RuleHead) -> Option<u64>
     ensures { result ≡ cond h.has_line (Some h.line) None }
 {
-    if h.has_line {
-        return Some(h.line);
-    }
-    None
+    if h.has_line { Some(h.line) } else { None }
 }
 
 fn first_of(a: Option<u64>, b: Option<u64>) -> Option<u64>
     ensures { result ≡ or_else a b }
 {
-    let Some(s) = a else {
-        return b;
-    };
-    Some(s)
+    a.or(b)
 }
 
 fn line_words(l: Option<u64>) -> LineWords
     ensures { line_words result ≡ l }
 {
-    let Some(s) = l else {
-        return LineWords { flag: 0, number: 0 };
-    };
-    LineWords { flag: 1, number: s }
+    match l {
+        Some(number) => LineWords { flag: 1, number },
+        None => LineWords { flag: 0, number: 0 },
+    }
 }
 
 // The rule's own line where it has one, else the light's.
@@ -93,6 +85,7 @@ fn kept_line(h: RuleHead, line: Option<u64>) -> LineWords
 }
 
 // Rule i, a light, with one more signal, these lanes, and a line where it had none.
+#[tactic(auto, using(crate::proofs::JoinLaws::line_ready, crate::proofs::JoinLaws::lanes_ready, crate::proofs::JoinLaws::group_put))]
 pub fn group_put(words: &mut [u64], i: usize, signal: u64, line: Option<u64>, lanes: &[u64])
     requires { ReadableWords words.old × (i < count_of words.old 5) × (get_or (row_of words.old 5 i) 1 0 ≡ 1) × (get_or (row_of words.old 5 i) 41 0 < 16) × (length lanes.now ≤ 16) }
     ensures { GroupPut words.old i signal line lanes.now words.new }

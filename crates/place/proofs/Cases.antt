@@ -10,7 +10,6 @@ use Rattle.refusal.specs.Answer.{Answer, refused, done}
 use Rattle.rows.specs.Lists.{same_list}
 use Rattle.geometry.specs.Double.{whole, decimal, f0}
 use Rattle.geometry.specs.Point.{at3}
-use Rattle.codec.specs.Format
 use Rattle.codec.specs.Format.{Bytes}
 use Rattle.map.specs.Record.{Map}
 use Rattle.map.specs.MapFile.{polyline, open_map_file}

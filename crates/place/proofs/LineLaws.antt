@@ -1,15 +1,14 @@
 -- Lines by value, a side of a lane, and its centreline.
 use Prim.Native.Nat.{ℕ, suc, ◌+◌, ◌*◌, ◌/◌, ◌≤◌, ◌<◌, max}
 use mathlib.Core.Path.{◌≡◌, refl, sym, ap, ap₂, ◌∙◌}
-use mathlib.Core.Bool.{Bool, true, false, not, cond, true≢false}
+use mathlib.Core.Bool.{Bool, true, false, not, cond}
 use mathlib.Core.List.{List, [], ◌∷◌}
 use native.Mathlib.Nat.{zero-add}
 use native.Mathlib.Omega.{arith}
-use lib.Dec.{eqb}
 use lib.Ieee.{Float, nan}
 use lib.ListN.{length, get_or, take, length-take}
 use lib.Seq.{get_or-take}
-use borrow.Author.Tests.{not-true, not-false, eqb-true}
+use borrow.Author.Tests.{not-true, not-false}
 use Rattle.rows.specs.Lists.{list_to}
 use Rattle.rows.specs.Rows.{pasted}
 use Rattle.rows.proofs.RowLaws.{get_or_in}
@@ -56,9 +55,6 @@ module _ (cs : List Float) (n : ℕ) where
 pub line_part_lem : (l : Line) → Roomy l → polyline_of (take (l.count * 3) l.coords) ≡ points_of l
 unfolding points_of
 line_part_lem l h = part_points l.coords l.count (omega arith)
-
-pub copy_room : (cs : List Float) (n : ℕ) → n ≡ length cs / 3 → n ≤ 64 → 0 + length (take (n * 3) cs) ≤ 192
-copy_room cs n e h = let k = part_long cs n (omega arith) in omega arith
 
 module _ (cs d : List Float) (n : ℕ) (e : n ≡ length cs / 3) (h : n ≤ 64) (l : length d ≡ 192) where
   pub copy_is : (r : List Float) → r ≡ pasted d 0 (take (n * 3) cs) (length (take (n * 3) cs)) → list_to (point_in r) n ≡ polyline_of cs
@@ -183,10 +179,6 @@ module _ (ws : List ℕ) (cs : List Float) (ok : Readable ws cs) (x i : ℕ) (r 
 
 -- ---- between the sides
 
-flip : {A : Type 0} (b : Bool) (x y : A) → cond (not b) x y ≡ cond b y x
-flip true x y = refl
-flip false x y = refl
-
 center_few : (xs ys zs : Polyline) → centerline xs ys ≡ Some zs → length xs ≤ 64 → length ys ≤ 64 → length zs ≤ 64
 unfolding centerline
 center_few [] ys zs e h k = let z : ◌≡◌ {A = ℕ} 0 1 = cc in absurd (omega arith)
@@ -221,12 +213,6 @@ module _ (a b : MaybeLine) where
       record { answer = rw (e, f) h.answer; room = h.room }
 
   module _ (ra : Roomy a.line) (rb : Roomy b.line) where
-    pub sides_few : (length (take (a.line.count * 3) a.line.coords) / 3 ≤ 64) × (length (take (b.line.count * 3) b.line.coords) / 3 ≤ 64)
-    sides_few = (
-      omega (arith, ra.few, ra.long, part_long a.line.coords a.line.count (omega (arith, ra.few, ra.long))),
-      omega (arith, rb.few, rb.long, part_long b.line.coords b.line.count (omega (arith, rb.few, rb.long))),
-    )
-
     module _ (o : Option Line)
         (e : line_option o ≡ centerline (polyline_of (take (a.line.count * 3) a.line.coords)) (polyline_of (take (b.line.count * 3) b.line.coords)))
         (s : not a.there ≡ false) (t : not b.there ≡ false) where
@@ -272,15 +258,6 @@ module _ (ws : List ℕ) (cs : List Float) (x y : ℕ) (s t : List Float) (p : A
   pub along_made : (c : Line) → o ≡ Some c → length c.coords ≡ 192
       → LineRead (between (oriented (map_of ws cs) (side_of x false)) (oriented (map_of ws cs) (side_of y false))) (record { there = true; line = c })
   along_made c z w = rw (p.is, q.is) (between_lines (polyline_of s) (polyline_of t) o e c z p.few q.few w)
-
-module _ (m : Map) (row : LaneRow) (r : MaybeLine) where
-  pub turned_made : (a b : MaybeLine) → LineRead (oriented m (side_of row.left row.left_reversed)) a → LineRead (oriented m (side_of row.right row.right_reversed)) b
-      → LineRead (between (maybe_line a) (maybe_line b)) r → LineRead (between_sides m row) r
-  turned_made a b ha hb h = record { answer = h.answer ∙ ap₂ between ha.answer hb.answer; room = h.room }
-
-  pub along_sides : row.left_reversed ≡ false → row.right_reversed ≡ false → LineRead (between (oriented m (side_of row.left false)) (oriented m (side_of row.right false))) r
-      → LineRead (between_sides m row) r
-  along_sides p q h = record { answer = h.answer ∙ ap₂ (λ (t u : Bool). between (oriented m (side_of row.left t)) (oriented m (side_of row.right u))) (sym p) (sym q); room = h.room }
 
 -- ---- a lane's centreline
 

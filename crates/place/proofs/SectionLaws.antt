@@ -5,7 +5,7 @@ use mathlib.Core.Bool.{Bool, true, false, not, cond}
 use mathlib.Core.List.{List, [], ◌∷◌}
 use native.Mathlib.Numerals.{add-one}
 use native.Mathlib.Omega.{arith}
-use lib.Ieee.{Float, lt}
+use lib.Ieee.{Float}
 use lib.ListN.{length, get_or, drop, take, drop_of_length-le}
 use lib.Seq.{drop-cons}
 use borrow.Author.Tests.{not-true, not-false}
@@ -13,9 +13,8 @@ use Rattle.refusal.specs.Answer.{Answer, refused, done, ◌>>=◌, present}
 use Rattle.geometry.specs.declared.Point2.{Point2}
 use Rattle.geometry.specs.declared.Point3.{Point3}
 use Rattle.geometry.specs.declared.NearestPoint.{NearestPoint}
-use Rattle.geometry.specs.Double.{◌⊖◌, milli}
-use Rattle.geometry.specs.Point.{xy, sub2, dot, perp}
-use Rattle.geometry.specs.Polyline.{Polyline, polyline_of, point_at, direction_at, nearest_point}
+use Rattle.geometry.specs.Point.{xy}
+use Rattle.geometry.specs.Polyline.{Polyline, polyline_of, nearest_point}
 use Rattle.centerline.specs.declared.Line.{Line}
 use Rattle.centerline.specs.Line.{points_of}
 use Rattle.store.specs.Layout.{row_of, coords_of}
@@ -30,34 +29,13 @@ use Rattle.map.proofs.ReadLaws.{found_record, none_record, lane_number}
 use Rattle.place.specs.declared.LaneSide.TheVariants.{Left, Right}
 use Rattle.place.specs.declared.EndName.{EndName}
 use Rattle.place.specs.declared.SideNearest.{SideNearest}
-use Rattle.place.specs.declared.SectionEnd.{SectionEnd}
 use Rattle.place.specs.declared.SectionEnds.{SectionEnds}
-use Rattle.place.specs.Place.{Ends, Section, outer, widened, with_side, with_lane, with_lanes, section, cross_section, lane_centerline}
-use Rattle.place.specs.Steps.{outer_left, outer_right, no_ends, NamedSide, with_sides, section_on}
-use Rattle.place.specs.Values.{Roomy, side_of, sides_of, no_side, side_nearest, nearest_in, end_of, maybe_end, ends_of, walked}
+use Rattle.place.specs.Place.{Ends, widened, with_side, with_lane, with_lanes, cross_section, lane_centerline}
+use Rattle.place.specs.Steps.{no_ends, NamedSide, with_sides, section_on}
+use Rattle.place.specs.Values.{Roomy, side_of, sides_of, no_side, side_nearest, nearest_in, ends_of, walked}
 use Rattle.place.proofs.LineLaws.{line_part_lem}
 
--- ---- ends
-
-module _ (beats : Float → Float → Bool) (best : Option SectionEnd) (x : SectionEnd) where
-  pub outer_none : best ≡ None → Some (end_of x) ≡ outer beats (maybe_end best) (end_of x)
-  unfolding outer
-  outer_none q = rw q
-
-  module _ (b : SectionEnd) (q : best ≡ Some b) where
-    pub outer_new : beats x.lateral b.lateral ≡ true → Some (end_of x) ≡ outer beats (maybe_end best) (end_of x)
-    unfolding outer
-    outer_new t = rw (q, t)
-
-    pub outer_old : beats x.lateral b.lateral ≡ false → Some (end_of b) ≡ outer beats (maybe_end best) (end_of x)
-    unfolding outer
-    outer_old t = rw (q, t)
-
-pub widened_is : (p : Point3) (normal : Point2) (x : EndName) (n : NearestPoint) (es : SectionEnds) (u v w : Point2) (d : Float) (l r : Option SectionEnd) → u ≡ xy n.point → v ≡ xy p → w ≡ sub2 u v → d ≡ dot normal w
-    → maybe_end l ≡ outer_left (maybe_end es.left) (record { lateral = d; point = n.point; name = x }) → maybe_end r ≡ outer_right (maybe_end es.right) (record { lateral = d; point = n.point; name = x })
-    → record { left = maybe_end l; right = maybe_end r } ≡ widened p normal x (Some n) (ends_of es)
-unfolding widened
-widened_is p normal x n es u v w d l r eu ev ew ed el er = rw (el, er, ed, ew, eu, ev)
+-- ---- a line
 
 pub nearest_is : (l : Line) (p : Point2) (o : Option NearestPoint) → Roomy l → o ≡ nearest_point (polyline_of (take (l.count * 3) l.coords)) p → o ≡ nearest_point (points_of l) p
 nearest_is l p o h e = e ∙ ap (λ (xs : Polyline). nearest_point xs p) (line_part_lem l h)
@@ -69,13 +47,6 @@ none_some e = let z : ◌≡◌ {A = ℕ} 0 1 = cc in omega arith
 
 some_same : {x y : Option NearestPoint} → Some x ≡ Some y → x ≡ y
 some_same e = cc
-
-module _ (row : LaneRow) (k : ℕ) where
-  pub side_left : k ≡ 0 → record { side = Left; boundary = side_of row.left row.left_reversed } ≡ get_or (sides_of row) k no_side
-  side_left q = rw q
-
-  pub side_right : k < 2 → (k ≡ 0 → ⊥) → record { side = Right; boundary = side_of row.right row.right_reversed } ≡ get_or (sides_of row) k no_side
-  side_right h q = let r : k ≡ 1 = omega (arith, q) in rw r
 
 module _ (m : Map) (p : Point3) (normal : Point2) (x : EndName) (s : BoundaryRef) (es : Ends) where
   side_none : oriented m s ≡ None → with_side m p normal x s es ≡ refused 6 (4 ∷ [])
@@ -90,9 +61,6 @@ module _ (m : Map) (p : Point3) (normal : Point2) (x : EndName) (s : BoundaryRef
 pub record Siding (m : Map) (p : Point3) (normal : Point2) (lane : ℕ) (row : LaneRow) (first es : Ends) (k : ℕ) : Type 0 where
   pub within : k ≤ 2
   pub goes : with_sides m p normal lane (sides_of row) first ≡ with_sides m p normal lane (drop k (sides_of row)) es
-
-pub siding_start : (m : Map) (p : Point3) (normal : Point2) (lane : ℕ) (row : LaneRow) (es : Ends) → Siding m p normal lane row es es 0
-siding_start m p normal lane row es = record { within = omega arith; goes = refl }
 
 module _ (m : Map) (p : Point3) (normal : Point2) (lane : ℕ) (row : LaneRow) (first es : Ends) (k : ℕ) (inv : Siding m p normal lane row first es k) where
   pub siding_end : 2 ≤ k → done es ≡ with_sides m p normal lane (sides_of row) first
@@ -167,9 +135,6 @@ pub record Laning (m : Map) (p : Point3) (normal : Point2) (lanes : List ℕ) (e
   pub within : i ≤ length lanes
   pub goes : with_lanes m p normal lanes no_ends ≡ with_lanes m p normal (drop i lanes) es
 
-pub laning_start : (m : Map) (p : Point3) (normal : Point2) (lanes : List ℕ) → Laning m p normal lanes no_ends 0
-laning_start m p normal lanes = record { within = omega arith; goes = refl }
-
 module _ (m : Map) (p : Point3) (normal : Point2) (lanes : List ℕ) (es : Ends) (i : ℕ) (inv : Laning m p normal lanes es i) where
   pub laning_end : length lanes ≤ i → done es ≡ with_lanes m p normal lanes no_ends
   unfolding with_lanes
@@ -191,44 +156,6 @@ module _ (m : Map) (p : Point3) (normal : Point2) (lanes : List ℕ) (es : Ends)
         }
 
 -- ---- the section
-
-module _ (l r : Option SectionEnd) where
-  pub section_left : l ≡ None → refused 6 (5 ∷ []) ≡ section (maybe_end l) (maybe_end r)
-  unfolding section
-  section_left q = rw q
-
-  module _ (a : SectionEnd) (ql : l ≡ Some a) where
-    pub section_right : r ≡ None → refused 6 (5 ∷ []) ≡ section (maybe_end l) (maybe_end r)
-    unfolding section
-    section_right q = rw (ql, q)
-
-    module _ (b : SectionEnd) (qr : r ≡ Some b) where
-      pub section_wide : lt milli (a.lateral ⊖ b.lateral) ≡ true → done (record { points = a.point ∷ b.point ∷ []; names = record { left = a.name; right = b.name } }) ≡ section (maybe_end l) (maybe_end r)
-      unfolding section
-      section_wide t = rw (ql, qr, t)
-
-      pub section_narrow : lt milli (a.lateral ⊖ b.lateral) ≡ false → refused 6 (5 ∷ []) ≡ section (maybe_end l) (maybe_end r)
-      unfolding section
-      section_narrow t = rw (ql, qr, t)
-
-module _ (m : Map) (c : Polyline) (s : Float) (lanes : List ℕ) (o : Option Point3) (eo : o ≡ point_at c s) where
-  pub on_nothing : o ≡ None → refused 6 (2 ∷ []) ≡ section_on m c s lanes
-  unfolding section_on
-  on_nothing q = rw (← eo, q)
-
-  module _ (p : Point3) (qp : o ≡ Some p) (u : Option Point2) (eu : u ≡ direction_at c s) where
-    pub no_direction : u ≡ None → refused 6 (3 ∷ []) ≡ section_on m c s lanes
-    unfolding section_on
-    no_direction q = rw (← eo, qp, ← eu, q)
-
-    module _ (d : Point2) (qd : u ≡ Some d) (n : Point2) (en : n ≡ perp d) (v : Option SectionEnds) (ev : walked v ≡ with_lanes m p n lanes no_ends) where
-      pub no_boundary : v ≡ None → refused 6 (4 ∷ []) ≡ section_on m c s lanes
-      unfolding section_on
-      no_boundary q = rw (← eo, qp, ← eu, qd, ← en, ← ev, q)
-
-      pub section_is : (x : SectionEnds) (a : Answer Section) → v ≡ Some x → a ≡ section (maybe_end x.left) (maybe_end x.right) → a ≡ section_on m c s lanes
-      unfolding section_on
-      section_is x a q h = rw (← eo, qp, ← eu, qd, ← en, ← ev, q) h
 
 -- a cross-section is that of the centreline
 pub cross_section_is : (m : Map) (n : ℕ) (s : Float) (lanes : List ℕ) → cross_section m n s lanes ≡ (present (lane_centerline m n) 6 (1 ∷ []) >>= λ c. section_on m c s lanes)

@@ -35,6 +35,7 @@ pub fn absent() -> MaybeLine
 }
 
 // A boundary's points along the lane.
+#[tactic(auto, using(crate::proofs::LineLaws::oriented_none, crate::proofs::LineLaws::boundary_word, crate::proofs::LineLaws::boundary_part))]
 pub fn oriented(words: &[u64], coords: &[f64], number: u64, reversed: bool) -> MaybeLine
     requires { Readable words.now coords.now }
     ensures { LineRead (oriented (map_of words.now coords.now) (side_of number reversed)) result }
@@ -57,23 +58,17 @@ pub fn oriented(words: &[u64], coords: &[f64], number: u64, reversed: bool) -> M
 }
 
 // The line between two sides.
+#[tactic(auto, using(crate::proofs::LineLaws::between_none, crate::proofs::LineLaws::no_left, crate::proofs::LineLaws::no_right))]
 fn between(a: MaybeLine, b: MaybeLine) -> MaybeLine
     requires { Roomy a.line × Roomy b.line }
     ensures { LineRead (between (maybe_line a) (maybe_line b)) result }
 {
-    if !a.there {
+    if !a.there || !b.there {
         return absent();
     }
-    if !b.there {
-        return absent();
-    }
-    let l = a.line;
-    let r = b.line;
-    let left = l.coords;
-    let right = r.coords;
-    let e = l.count * 3;
-    let f = r.count * 3;
-    match centerline::middle::centerline(&left[..e], &right[..f]) {
+    let e = a.line.count * 3;
+    let f = b.line.count * 3;
+    match centerline::middle::centerline(&a.line.coords[..e], &b.line.coords[..f]) {
         Some(line) => MaybeLine { there: true, line },
         None => absent(),
     }
@@ -90,6 +85,7 @@ fn between_turned(words: &[u64], coords: &[f64], row: LaneRow) -> MaybeLine
 }
 
 // The line between two boundaries that run along the lane: they are read where they stand.
+#[tactic(auto, using(crate::proofs::LineLaws::along_no_left, crate::proofs::LineLaws::along_no_right, crate::proofs::LineLaws::boundary_word, crate::proofs::LineLaws::boundary_part, crate::proofs::LineLaws::stands_along, crate::proofs::LineLaws::along_none))]
 fn between_along(words: &[u64], coords: &[f64], left: u64, right: u64) -> MaybeLine
     requires { Readable words.now coords.now }
     ensures { LineRead (between (oriented (map_of words.now coords.now) (side_of left false)) (oriented (map_of words.now coords.now) (side_of right false))) result }
@@ -114,16 +110,14 @@ fn between_sides(words: &[u64], coords: &[f64], row: LaneRow) -> MaybeLine
     requires { Readable words.now coords.now }
     ensures { LineRead (between_sides (map_of words.now coords.now) row) result }
 {
-    if row.left_reversed {
-        return between_turned(words, coords, row);
-    }
-    if row.right_reversed {
+    if row.left_reversed || row.right_reversed {
         return between_turned(words, coords, row);
     }
     between_along(words, coords, row.left, row.right)
 }
 
 // The stored one, even if it is empty; else the line between the sides.
+#[tactic(auto, using(crate::proofs::LineLaws::no_lane, crate::proofs::LineLaws::lane_row, crate::proofs::LineLaws::stored_part, crate::proofs::LineLaws::made_line))]
 pub fn lane_centerline(words: &[u64], coords: &[f64], lane: u64) -> MaybeLine
     requires { Readable words.now coords.now }
     ensures { LineRead (lane_centerline (map_of words.now coords.now) lane) result }

@@ -21,6 +21,7 @@ use refusal::{PlaceFault, Refusal};
 use store::Kind;
 
 // The end that lies farther to the left; on equal values the earlier one stays.
+#[tactic(auto, unfolding(crate::specs::Place::outer))]
 fn outer_left(best: Option<SectionEnd>, e: SectionEnd) -> Option<SectionEnd>
     ensures { maybe_end result ≡ outer_left (maybe_end best) (end_of e) }
 {
@@ -34,6 +35,7 @@ fn outer_left(best: Option<SectionEnd>, e: SectionEnd) -> Option<SectionEnd>
 }
 
 // The one that lies farther to the right.
+#[tactic(auto, unfolding(crate::specs::Place::outer))]
 fn outer_right(best: Option<SectionEnd>, e: SectionEnd) -> Option<SectionEnd>
     ensures { maybe_end result ≡ outer_right (maybe_end best) (end_of e) }
 {
@@ -47,6 +49,7 @@ fn outer_right(best: Option<SectionEnd>, e: SectionEnd) -> Option<SectionEnd>
 }
 
 // The ends, with a boundary's nearest point taken in.
+#[tactic(auto, unfolding(crate::specs::Place::widened))]
 fn widened(
     p: Point3,
     normal: Point2,
@@ -62,15 +65,14 @@ fn widened(
         point: q,
         name,
     };
-    let left = ends.left;
-    let right = ends.right;
     SectionEnds {
-        left: outer_left(left, e),
-        right: outer_right(right, e),
+        left: outer_left(ends.left, e),
+        right: outer_right(ends.right, e),
     }
 }
 
 // The point of a line that is nearest to a point of the plane.
+#[tactic(auto, using(crate::proofs::SectionLaws::nearest_is))]
 pub fn nearest_of(line: Line, p: Point2) -> Option<NearestPoint>
     requires { Roomy line }
     ensures { result ≡ nearest_point (points_of line) p }
@@ -81,6 +83,7 @@ pub fn nearest_of(line: Line, p: Point2) -> Option<NearestPoint>
 }
 
 // The same of a boundary along the lane. Only one that runs against the lane is copied.
+#[tactic(auto, using(crate::proofs::LineLaws::nearest_none, crate::proofs::LineLaws::boundary_word, crate::proofs::LineLaws::boundary_part, crate::proofs::LineLaws::reversed_room, crate::proofs::LineLaws::nearest_reversed, crate::proofs::LineLaws::nearest_along))]
 fn nearest_side(
     words: &[u64],
     coords: &[f64],
@@ -131,6 +134,7 @@ fn side_of(row: LaneRow, k: usize) -> Side
 }
 
 // The ends after both sides of a lane. A boundary without points is passed over.
+#[tactic(auto, using(crate::proofs::SectionLaws::siding_end))]
 fn with_sides(
     words: &[u64],
     coords: &[f64],
@@ -144,20 +148,16 @@ fn with_sides(
     ensures { walked result ≡ with_sides (map_of words.now coords.now) p normal lane (sides_of row) (ends_of start) }
 {
     let mut ends = start;
-    let mut k = 0;
-    while k < 2 {
+    for k in 0..2 {
         let s = side_of(row, k);
-        k += 1;
         let b = nearest_side(words, coords, s.number, s.reversed, flat(p));
         if !b.there {
             return None;
         }
-        let nearest = b.nearest;
-        let Some(n) = nearest else {
+        let Some(n) = b.nearest else {
             continue;
         };
-        let side = s.side;
-        let name = EndName { lane, side };
+        let name = EndName { lane, side: s.side };
         ends = widened(p, normal, name, n, ends);
     }
     Some(ends)
@@ -174,9 +174,7 @@ fn with_lane(
     requires { Readable words.now coords.now }
     ensures { walked result ≡ with_lane (map_of words.now coords.now) p normal lane (ends_of ends) }
 {
-    let Some(i) = lookup::find(words, Kind::Lane, lane) else {
-        return None;
-    };
+    let i = lookup::find(words, Kind::Lane, lane)?;
     with_sides(words, coords, p, normal, lane, lookup::lane(words, i), ends)
 }
 
@@ -194,27 +192,21 @@ fn with_lanes(
         left: None,
         right: None,
     };
-    let mut i = 0;
-    while i < lanes.len() {
-        let Some(e) = with_lane(words, coords, p, normal, lanes[i], ends) else {
-            return None;
-        };
-        ends = e;
-        i += 1;
+    for lane in lanes {
+        ends = with_lane(words, coords, p, normal, *lane, ends)?;
     }
     Some(ends)
 }
 
 // The ends must be more than 1e-3 apart.
+#[tactic(auto, unfolding(crate::specs::Place::section))]
 fn section(ends: SectionEnds) -> Result<(CrossSection, SectionNames), Refusal>
     ensures { section_answer result ≡ section (maybe_end ends.left) (maybe_end ends.right) }
 {
-    let l = ends.left;
-    let r = ends.right;
-    let Some(a) = l else {
+    let Some(a) = ends.left else {
         return Err(Refusal::NoPlace(PlaceFault::NoSection));
     };
-    let Some(b) = r else {
+    let Some(b) = ends.right else {
         return Err(Refusal::NoPlace(PlaceFault::NoSection));
     };
     if a.lateral - b.lateral > 1e-3 {
@@ -233,6 +225,7 @@ fn section(ends: SectionEnds) -> Result<(CrossSection, SectionNames), Refusal>
 }
 
 // The cross-section at a station of a centreline.
+#[tactic(auto, unfolding(crate::specs::Steps::section_on))]
 pub fn cross_section(
     words: &[u64],
     coords: &[f64],

@@ -8,7 +8,7 @@ use native.Mathlib.Omega.{arith}
 use lib.Dec.{eqb, ltb}
 use lib.Ieee.{Float}
 use lib.ListN.{length}
-use borrow.Author.Tests.{not-true, not-false, eq-eqb, ne_eqb, lt-ltb, le-ltb, ltb-false}
+use borrow.Author.Tests.{not-true, not-false, eq-eqb, lt-ltb, le-ltb, ltb-false}
 use Rattle.refusal.specs.Answer.{Answer, refused, done, ◌>>◌, refuse_when}
 use Rattle.refusal.specs.declared.Refusal.TheVariants.{NoLanes, Unknown, ListedTwice}
 use Rattle.refusal.specs.declared.Listed.TheVariants as listed
@@ -54,20 +54,8 @@ module _ (ws lanes : List ℕ) where
 -- ---- points
 
 module _ (cs : List Float) where
-  pub shape_lacks : (length cs % 3 ≡ 0 → ⊥) → refused 5 (1 ∷ []) ≡ check_polyline cs
-  unfolding check_polyline
-  shape_lacks h = rw (ne_eqb (length cs % 3) 0 h)
-
   module _ (h : length cs % 3 ≡ 0) (f : Bool) (ef : f ≡ every is_finite cs) where
-    pub shape_infinite : not f ≡ true → refused 5 (1 ∷ []) ≡ check_polyline cs
-    unfolding check_polyline
-    shape_infinite t = rw (eq-eqb (length cs % 3) 0 h, ← ef, not-true f t)
-
     module _ (tf : not f ≡ false) (g : Bool) (eg : g ≡ every on_map cs) where
-      pub shape_off : not g ≡ true → refused 9 [] ≡ check_polyline cs
-      unfolding check_polyline
-      shape_off t = rw (eq-eqb (length cs % 3) 0 h, ← ef, not-false f tf, ← eg, not-true g t)
-
       module _ (tg : not g ≡ false) where
         pub shape_many : 64 < length cs / 3 → refused 10 [] ≡ check_polyline cs
         unfolding check_polyline

@@ -28,9 +28,6 @@ module _ {A : Type 0} (p : A → Bool) (z : A) (xs : List A) where
     pub within : i ≤ length xs
     pub goes : every p xs ≡ every p (drop i xs)
 
-  pub every_start : Every 0
-  every_start = record { within = omega arith; goes = refl }
-
   module _ (i : ℕ) (inv : Every i) where
     pub every_end : length xs ≤ i → true ≡ every p xs
     unfolding every
@@ -75,9 +72,6 @@ module _ (ns : List ℕ) where
     pub within : i ≤ length ns
     pub goes : twice ns ≡ twice (drop i ns)
 
-  pub single_start : Single 0
-  single_start = record { within = omega arith; goes = refl }
-
   module _ (i : ℕ) (inv : Single i) where
     pub single_end : length ns ≤ i → false ≡ twice ns
     unfolding twice
@@ -102,9 +96,6 @@ module _ (ws lanes : List ℕ) where
   pub record Known (i : ℕ) : Type 0 where
     pub within : i ≤ length lanes
     pub goes : (cs : List Float) → unknown_in (λ (l : Lane). l.num) (map_of ws cs).lanes lanes ≡ unknown_in (λ (l : Lane). l.num) (map_of ws cs).lanes (drop i lanes)
-
-  pub known_start : Known 0
-  known_start = record { within = omega arith; goes = λ cs. refl }
 
   module _ (i : ℕ) (inv : Known i) where
     pub known_end : length lanes ≤ i → UnknownRead ws lanes None

@@ -8,6 +8,7 @@ use crate::lists;
 use refusal::{Listed, RecordKind, Refusal, ShapeFault};
 
 // 1 for no lanes, 2 for the first unknown one as given, 3 for one that is listed twice.
+#[tactic(auto, using(crate::proofs::CheckLaws::lanes_none, crate::proofs::CheckLaws::lanes_unknown, crate::proofs::CheckLaws::lanes_twice, crate::proofs::CheckLaws::lanes_fine))]
 pub fn check_lane_list(words: &[u64], lanes: &[u64]) -> Result<(), Refusal>
     requires { SizedWords words.now }
     ensures { LanesChecked words.now lanes.now result }
@@ -15,8 +16,7 @@ pub fn check_lane_list(words: &[u64], lanes: &[u64]) -> Result<(), Refusal>
     if lanes.len() == 0 {
         return Err(Refusal::NoLanes);
     }
-    let unknown = lists::unknown_lane(words, lanes);
-    if let Some(n) = unknown {
+    if let Some(n) = lists::unknown_lane(words, lanes) {
         return Err(Refusal::Unknown(RecordKind::Lane, n));
     }
     if lists::twice(lanes) {
@@ -26,13 +26,11 @@ pub fn check_lane_list(words: &[u64], lanes: &[u64]) -> Result<(), Refusal>
 }
 
 // 5/1 for a coordinate that is missing or not finite, 9, 10, then 5/2 for no length.
+#[tactic(auto, unfolding(place::specs::Place::check_polyline))]
 pub fn check_polyline(cs: &[f64]) -> Result<(), Refusal>
     ensures { checked result ≡ check_polyline cs.now }
 {
-    if cs.len() % 3 != 0 {
-        return Err(Refusal::BadShape(ShapeFault::NotFinite));
-    }
-    if !lists::all_finite(cs) {
+    if cs.len() % 3 != 0 || !lists::all_finite(cs) {
         return Err(Refusal::BadShape(ShapeFault::NotFinite));
     }
     if !lists::all_on_map(cs) {

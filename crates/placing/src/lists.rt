@@ -9,73 +9,67 @@ use geometry::double;
 use map::lookup;
 use store::Kind;
 
+#[tactic(auto, using(crate::proofs::WalkLaws::every_out, crate::proofs::WalkLaws::every_next))]
 pub fn all_finite(cs: &[f64]) -> bool
     ensures { result ≡ every is_finite cs.now }
 {
-    let mut i = 0;
-    while i < cs.len() {
-        if !double::is_finite(cs[i]) {
+    for x in cs {
+        if !double::is_finite(*x) {
             return false;
         }
-        i += 1;
     }
     true
 }
 
+#[tactic(auto, using(crate::proofs::WalkLaws::every_out, crate::proofs::WalkLaws::every_next))]
 pub fn all_on_map(cs: &[f64]) -> bool
     ensures { result ≡ every on_map cs.now }
 {
-    let mut i = 0;
-    while i < cs.len() {
-        if !double::on_map(cs[i]) {
+    for x in cs {
+        if !double::on_map(*x) {
             return false;
         }
-        i += 1;
     }
     true
 }
 
 // Whether n stands in the list from an index on.
+#[tactic(auto, using(crate::proofs::WalkLaws::sought_start, crate::proofs::WalkLaws::sought_here, crate::proofs::WalkLaws::sought_next, crate::proofs::WalkLaws::sought_end))]
 pub fn member(ns: &[u64], from: usize, n: u64) -> bool
     requires { from ≤ length ns.now }
     ensures { result ≡ member n (drop from ns.now) }
 {
-    let mut i = from;
-    while i < ns.len() {
+    for i in from..ns.len() {
         if ns[i] == n {
             return true;
         }
-        i += 1;
     }
     false
 }
 
 // Whether some number stands in the list twice.
+#[tactic(auto, using(crate::proofs::WalkLaws::single_not, crate::proofs::WalkLaws::single_next, crate::proofs::WalkLaws::single_end))]
 pub fn twice(ns: &[u64]) -> bool
     ensures { result ≡ twice ns.now }
 {
-    let mut i = 0;
-    while i < ns.len() {
-        if member(ns, i + 1, ns[i]) {
+    for (i, n) in ns.iter().enumerate() {
+        if member(ns, i + 1, *n) {
             return true;
         }
-        i += 1;
     }
     false
 }
 
 // The first lane, as given, that the map lacks.
+#[tactic(auto, using(crate::proofs::WalkLaws::known_not, crate::proofs::WalkLaws::known_next, crate::proofs::WalkLaws::known_end))]
 pub fn unknown_lane(words: &[u64], lanes: &[u64]) -> Option<u64>
     requires { SizedWords words.now }
     ensures { UnknownRead words.now lanes.now result }
 {
-    let mut i = 0;
-    while i < lanes.len() {
-        let n = lanes[i];
-        if !lookup::holds(words, Kind::Lane, n) {
-            return Some(n);
+    for n in lanes {
+        if !lookup::holds(words, Kind::Lane, *n) {
+            return Some(*n);
         }
-        i += 1;
     }
     None
 }

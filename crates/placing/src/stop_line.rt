@@ -31,6 +31,7 @@ pub fn refused_line(r: Refusal) -> PlacedLine
 }
 
 // The line from one end of a cross-section to the other.
+#[tactic(auto, using(crate::proofs::PlaceLaws::across_is))]
 pub fn across(s: CrossSection) -> Line
     ensures { points_of result ≡ s.left ∷ s.right ∷ [] }
 {
@@ -111,10 +112,7 @@ pub fn place_as(
         Placement::Given => given_line(given, lanes[0]),
         Placement::AtStation(s) => place_at(words, coords, center, lanes, len, s),
         Placement::AtLaneEnd(offset) => {
-            if !is_finite(offset) {
-                return refused_line(Refusal::BadMeasure(Measure::Offset));
-            }
-            if offset < 0.0 {
+            if !is_finite(offset) || offset < 0.0 {
                 return refused_line(Refusal::BadMeasure(Measure::Offset));
             }
             place_at(words, coords, center, lanes, len, len - offset)
@@ -137,10 +135,8 @@ pub fn place_with(
     if !center.there {
         return refused_line(Refusal::NoPlace(PlaceFault::NoLaneGeometry));
     }
-    let line = center.line;
-    let cs = line.coords;
-    let e = line.count * 3;
-    place_as(words, coords, &cs[..e], lanes, how, given)
+    let e = center.line.count * 3;
+    place_as(words, coords, &center.line.coords[..e], lanes, how, given)
 }
 
 // The line, or a refusal; the list of lanes is checked before.

@@ -1,5 +1,4 @@
 -- `place::section::with_sides` meets its contract. Assumes nothing.
-use Prim.Native.Nat.{◌-◌}
 use Rattle.map.specs.Tables.{map_of}
 use Rattle.place.specs.Values.{ends_of}
 use Rattle.place.proofs.SectionLaws.{Siding}
@@ -7,6 +6,3 @@ use Rattle.place.proofs.section.with_sides.Given as goal
 
 abbrev pub invariant-loop-k : goal.invariant-loop-k
 invariant-loop-k l = Siding (map_of l.words l.coords) l.p l.normal l.lane l.row (ends_of l.initial.ends) (ends_of l.ends) l.k
-
-abbrev pub decreases-loop-k : goal.decreases-loop-k
-decreases-loop-k l = 2 - l.k

@@ -1,17 +1,8 @@
 -- `placing::checks::check_polyline` meets its contract. Assumes nothing.
 use mathlib.Core.Bool.{not}
 use mathlib.Core.Path.{ap}
-use Rattle.placing.proofs.CheckLaws.{shape_lacks, shape_infinite, shape_off, shape_many, shape_short, shape_fine}
+use Rattle.placing.proofs.CheckLaws.{shape_many, shape_short, shape_fine}
 use Rattle.placing.proofs.checks.check_polyline.Goals as goal
-
-pub returns-then-cs-ne0 : goal.returns-then-cs-ne0
-returns-then-cs-ne0 c = shape_lacks _ c.if-cs-ne0.true
-
-pub returns-then-not-all_finite : goal.returns-then-not-all_finite
-returns-then-not-all_finite c = shape_infinite _ c.if-cs-ne0.false _ c.all_finite.ensures (ap not c.if-not-all_finite.true)
-
-pub returns-then-not-all_on_map : goal.returns-then-not-all_on_map
-returns-then-not-all_on_map c = shape_off _ c.if-cs-ne0.false _ c.all_finite.ensures (ap not c.if-not-all_finite.false) _ c.all_on_map.ensures (ap not c.if-not-all_on_map.true)
 
 pub returns-then-cs-gt64 : goal.returns-then-cs-gt64
 returns-then-cs-gt64 c = shape_many _ c.if-cs-ne0.false _ c.all_finite.ensures (ap not c.if-not-all_finite.false) _ c.all_on_map.ensures (ap not c.if-not-all_on_map.false) c.if-cs-gt64.true

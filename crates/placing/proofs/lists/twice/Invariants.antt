@@ -1,11 +1,6 @@
 -- `placing::lists::twice` meets its contract. Assumes nothing.
-use Prim.Native.Nat.{◌-◌}
-use lib.ListN.{length}
 use Rattle.placing.proofs.WalkLaws.{Single}
 use Rattle.placing.proofs.lists.twice.Given as goal
 
 abbrev pub invariant-loop-i : goal.invariant-loop-i
 invariant-loop-i l = Single l.ns l.i
-
-abbrev pub decreases-loop-i : goal.decreases-loop-i
-decreases-loop-i l = length l.ns - l.i
