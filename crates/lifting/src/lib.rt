@@ -36,6 +36,7 @@ pub struct Freed {
 }
 
 // Whether the rule is a marking or a stop sign on the line.
+#[tactic(auto, using(crate::proofs::OneLaws::stops_marking, crate::proofs::OneLaws::stops_sign, crate::proofs::OneLaws::stops_other_sign, crate::proofs::OneLaws::stops_no_line, crate::proofs::OneLaws::stops_none))]
 fn is_stop_at(h: RuleHead, line: u64) -> bool
     ensures { result ≡ head_stops line h }
 {
@@ -59,19 +60,18 @@ fn lanes_left(list: &[u64], lanes: &[u64]) -> Entries
 {
     let mut entries = [0u64; 16];
     let mut count = 0;
-    let mut i = 0;
-    while i < list.len() {
+    for i in 0..list.len() {
         let n = list[i];
         if !member(lanes, 0, n) {
             entries[count] = n;
             count += 1;
         }
-        i += 1;
     }
     Entries { count, entries }
 }
 
 // What happens to rule i under a light on the line for the lanes.
+#[tactic(auto, using(crate::proofs::OneLaws::list_asks, crate::proofs::OneLaws::head_asks, crate::proofs::OneLaws::list_short, crate::proofs::OneLaws::lift_off, crate::proofs::OneLaws::lift_kept, crate::proofs::OneLaws::lift_gone, crate::proofs::OneLaws::lift_eased))]
 pub fn lift_of(words: &[u64], i: usize, line: u64, lanes: &[u64]) -> Lifting
     requires { ReadableWords words.now × (i < count_of words.now 5) }
     ensures { LiftRead words.now i line lanes.now result }
@@ -104,6 +104,7 @@ pub fn lift_of(words: &[u64], i: usize, line: u64, lanes: &[u64]) -> Lifting
 }
 
 // The points of a rule's shape: only a sign has one.
+#[tactic(auto, using(crate::proofs::OneLaws::points_shape, crate::proofs::OneLaws::points_none, crate::proofs::OneLaws::points_other))]
 fn shape_points(h: RuleHead) -> u64
     ensures { result ≡ head_points h }
 {
@@ -146,12 +147,10 @@ pub fn gone(words: &[u64], line: u64, lanes: &[u64]) -> Freed
     let n = store::count(words, Kind::Rule);
     let mut rules = 0;
     let mut points = 0;
-    let mut i = 0;
-    while i < n {
+    for i in 0..n {
         let f = gone_at(words, i, line, lanes);
         rules += f.rules;
         points += f.points;
-        i += 1;
     }
     Freed { rules, points }
 }

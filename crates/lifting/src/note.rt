@@ -10,6 +10,7 @@ use map::lookup;
 use store::Kind;
 
 // One rule's entry and warning.
+#[tactic(auto, using(crate::proofs::NoteLaws::noted_eased, crate::proofs::NoteLaws::warn_asks))]
 fn note_lift(draft: &mut [u64], lift: Lift, number: u64)
     requires { OneFits draft.old }
     ensures { LiftNoted draft.old lift number draft.new }
@@ -34,11 +35,9 @@ pub fn note_lifts(words: &[u64], line: u64, lanes: &[u64], draft: &mut [u64])
     ensures { LiftsNoted words.now line lanes.now draft.old draft.new }
 {
     let n = store::count(words, Kind::Rule);
-    let mut i = 0;
-    while i < n {
+    for i in 0..n {
         let l = lift_of(words, i, line, lanes);
         let k = l.lift;
         note_lift(draft, k, lookup::word(words, Kind::Rule, i, 0));
-        i += 1;
     }
 }

@@ -65,13 +65,11 @@ fn line_number(plan: LinePlan, first: u64) -> LineNumber
 pub fn one_if(b: bool) -> u64
     ensures { result ≡ one_if b }
 {
-    if b {
-        return 1;
-    }
-    0
+    u64::from(b)
 }
 
 // A light with a rule of its own: two numbers, and one for a new line.
+#[tactic(auto, using(crate::proofs::StepLaws::one_few, crate::proofs::StepLaws::new_late, crate::proofs::StepLaws::new_right))]
 fn new_light(l: LineNumber, first: u64) -> Light
     ensures { NumbersMade l first None result }
 {
@@ -99,6 +97,7 @@ fn new_light(l: LineNumber, first: u64) -> Light
 }
 
 // A light that joins another: one number, and one for a new line.
+#[tactic(auto, using(crate::proofs::StepLaws::one_few, crate::proofs::StepLaws::joined_late, crate::proofs::StepLaws::joined_right))]
 fn joined_light(l: LineNumber, first: u64, group: u64) -> Light
     ensures { NumbersMade l first (Some group) result }
 {
@@ -126,6 +125,7 @@ fn joined_light(l: LineNumber, first: u64, group: u64) -> Light
 }
 
 // The numbers of a light.
+#[tactic(auto, using(crate::proofs::StepLaws::light_numbered))]
 pub fn light_of(words: &[u64], plan: LinePlan, group: Option<u64>) -> Light
     requires { SizedWords words.now }
     ensures { LightNumbered (next_of words.now) plan group result }
@@ -138,6 +138,14 @@ pub fn light_of(words: &[u64], plan: LinePlan, group: Option<u64>) -> Light
     }
 }
 
+// What a list of the change set names, by its kind and its number.
+fn entry(kind: u64, number: u64) -> Entry
+    ensures { result ≡ record { kind = kind; number = number } }
+{
+    Entry { kind, number }
+}
+
+#[tactic(auto, using(crate::proofs::StepLaws::push_none, crate::proofs::StepLaws::push_some, crate::proofs::StepLaws::push_room))]
 fn push_if(draft: &mut [u64], b: bool, l: SetList, e: Entry)
     requires { PushAsks draft.old (list_number l) }
     ensures { PushedIf draft.old b (list_number l) (ref_of e) draft.new }
@@ -148,6 +156,7 @@ fn push_if(draft: &mut [u64], b: bool, l: SetList, e: Entry)
     building::push(draft, l, e);
 }
 
+#[tactic(auto, using(crate::proofs::StepLaws::warn_none, crate::proofs::StepLaws::warn_some, crate::proofs::StepLaws::warn_room))]
 fn warn_if(draft: &mut [u64], b: bool, c: WarningCode, about: Entry)
     requires { WarnAsks draft.old }
     ensures { WarnedIf draft.old b (code_number c) about.kind about.number draft.new }
@@ -158,6 +167,7 @@ fn warn_if(draft: &mut [u64], b: bool, c: WarningCode, about: Entry)
     building::warn(draft, c, about);
 }
 
+#[tactic(auto, using(crate::proofs::StepLaws::lifts_none, crate::proofs::StepLaws::lifts_some))]
 fn lifts_if(words: &[u64], b: bool, line: u64, lanes: &[u64], draft: &mut [u64])
     requires { ReadableWords words.now × AllFit draft.old }
     ensures { NotedIf words.now b line lanes.now draft.old draft.new }
@@ -171,10 +181,7 @@ fn lifts_if(words: &[u64], b: bool, line: u64, lanes: &[u64], draft: &mut [u64])
 pub fn both(a: bool, b: bool) -> bool
     ensures { result ≡ (a && b) }
 {
-    if a {
-        return b;
-    }
-    false
+    a && b
 }
 
 // The change set of a light: what is new, the light that is joined, what is warned of, and what is lifted from its line.
@@ -191,33 +198,21 @@ pub fn draft_set(
 {
     let new = !l.joins;
     building::clear(draft);
-    let line = Entry {
-        kind: 5,
-        number: l.line,
-    };
-    let signal = Entry {
-        kind: 6,
-        number: l.signal,
-    };
-    let rule = Entry {
-        kind: 8,
-        number: l.rule,
-    };
+    let line = entry(5, l.line);
+    let signal = entry(6, l.signal);
+    let rule = entry(8, l.rule);
     push_if(draft, l.drawn, SetList::Created, line);
     push_if(draft, true, SetList::Created, signal);
     push_if(draft, new, SetList::Created, rule);
     push_if(draft, l.joins, SetList::Modified, rule);
-    let lane = Entry {
-        kind: 1,
-        number: lanes[0],
-    };
+    let lane = entry(1, lanes[0]);
     warn_if(
         draft,
         both(l.drawn, clamped),
         WarningCode::PlacementClamped,
         lane,
     );
-    let nothing = Entry { kind: 0, number: 0 };
+    let nothing = entry(0, 0);
     warn_if(draft, made, WarningCode::GeometrySynthesized, nothing);
     lifts_if(words, l.has_line, l.line, lanes, draft);
 }

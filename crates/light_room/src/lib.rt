@@ -39,6 +39,7 @@ pub struct SignalPlan {
 }
 
 // 9 for what is to be stored, the lamps being on the map or not, then 10 for so many of them and all else.
+#[tactic(auto, using(crate::proofs::TestLaws::freed_few, crate::proofs::TestLaws::more_few, crate::proofs::TestLaws::fitted_off, crate::proofs::TestLaws::fitted_full, crate::proofs::TestLaws::fitted_fine))]
 fn fitted(
     words: &[u64],
     lanes: &[u64],
@@ -67,28 +68,22 @@ fn fitted(
 fn refused_plan(r: Refusal, p: SignalPlan) -> SignalPlan
     ensures { PlanRefused r result }
 {
-    let plan = p.plan;
-    let light = p.light;
-    let line = p.line;
-    let ends = p.ends;
-    let housing = p.housing;
-    let bulbs = p.bulbs;
-    let joined = p.joined;
     SignalPlan {
         checked: Err(r),
-        plan,
-        light,
-        line,
+        plan: p.plan,
+        light: p.light,
+        line: p.line,
         clamped: p.clamped,
-        ends,
-        housing,
+        ends: p.ends,
+        housing: p.housing,
         synthesized: p.synthesized,
-        bulbs,
-        joined,
+        bulbs: p.bulbs,
+        joined: p.joined,
     }
 }
 
 // All refusals before the fold's, in their order, or the plan.
+#[tactic(auto, using(crate::proofs::PlanLaws::plan_ready, place::proofs::Sound::readable))]
 pub fn signal_plan(
     words: &[u64],
     coords: &[f64],
@@ -102,34 +97,28 @@ pub fn signal_plan(
     ensures { SignalPlanned words.now coords.now q lamps.now (new_traffic_signal lanes.now q points.now given.now lamps.now) result }
 {
     let p = light_plan(words, coords, lanes, q, points, given);
-    let checked = p.checked;
-    let plan = p.plan;
-    let line = p.line;
-    let ends = p.ends;
-    let housing = p.housing;
-    let group = q.group;
-    let light = light_of(words, plan, group);
-    let bulbs = bulbs_of(q, housing, lamps);
+    let light = light_of(words, p.plan, q.group);
+    let bulbs = bulbs_of(q, p.housing, lamps);
     let joined = tests::joined_for(words, light.joins, light.rule, lanes);
     let all = SignalPlan {
-        checked,
-        plan,
+        checked: p.checked,
+        plan: p.plan,
         light,
-        line,
+        line: p.line,
         clamped: p.clamped,
-        ends,
-        housing,
+        ends: p.ends,
+        housing: p.housing,
         synthesized: p.synthesized,
         bulbs,
         joined,
     };
-    if let Err(_) = checked {
+    if let Err(_) = p.checked {
         return all;
     }
-    let asked = q.lamps;
-    let on = tests::lamps_on(asked.given, lamps, bulbs);
-    let end = fitted(words, lanes, light, line, housing, on, bulbs.count, joined);
-    if let Err(r) = end {
+    let line = p.line;
+    let housing = p.housing;
+    let on = tests::lamps_on(q.lamps.given, lamps, bulbs);
+    if let Err(r) = fitted(words, lanes, light, line, housing, on, bulbs.count, joined) {
         return refused_plan(r, all);
     }
     all

@@ -20,6 +20,7 @@ use signal_row::{Bulbs, bulbs_on_map};
 use store::Kind;
 
 // A line, where it is stored.
+#[tactic(auto, using(place::proofs::LineLaws::part_long, crate::proofs::TestLaws::part_inside, crate::proofs::TestLaws::part_thirds, crate::proofs::TestLaws::line_left, crate::proofs::TestLaws::line_tested))]
 fn line_on(asked: bool, line: Line) -> bool
     requires { Roomy line }
     ensures { result ≡ cond asked (every point_on_map (points_of line)) true }
@@ -33,6 +34,7 @@ fn line_on(asked: bool, line: Line) -> bool
 }
 
 // Every lamp: those that are given, also past the fourth, each with all its coordinates; or the standard ones.
+#[tactic(auto, using(crate::proofs::TestLaws::lamps_standard, crate::proofs::TestLaws::lamps_short, crate::proofs::TestLaws::lamps_whole))]
 pub fn lamps_on(given: bool, lamps: &[f64], standard: Bulbs) -> bool
     requires { given ≡ false → standard.count ≤ 4 }
     ensures { result ≡ lamps_on given lamps.now standard }
@@ -47,6 +49,7 @@ pub fn lamps_on(given: bool, lamps: &[f64], standard: Bulbs) -> bool
 }
 
 // The line where it is drawn, the housing, and the lamps.
+#[tactic(auto, using(crate::proofs::TestLaws::all_on_map))]
 pub fn on_map(drawn: bool, line: Line, housing: Line, lamps: bool) -> bool
     requires { Roomy line × Roomy housing }
     ensures { result ≡ on_map drawn (points_of line) (points_of housing) lamps }
@@ -57,6 +60,7 @@ pub fn on_map(drawn: bool, line: Line, housing: Line, lamps: bool) -> bool
 }
 
 // What goes under a light: nothing where it has no line.
+#[tactic(auto, using(crate::proofs::TestLaws::freed_none, crate::proofs::TestLaws::freed_some))]
 pub fn freed_by(words: &[u64], lined: bool, line: u64, lanes: &[u64]) -> Freed
     requires { ReadableWords words.now × ShapesFew words.now }
     ensures { FreedRead words.now (cond lined (Some line) None) lanes.now result }
@@ -71,6 +75,7 @@ pub fn freed_by(words: &[u64], lined: bool, line: u64, lanes: &[u64]) -> Freed
 }
 
 // The lanes that the light that is joined would list.
+#[tactic(auto, using(crate::proofs::TestLaws::joined_none, crate::proofs::TestLaws::joined_lost, crate::proofs::TestLaws::joined_some, crate::proofs::TestLaws::found_here))]
 pub fn joined_for(words: &[u64], joins: bool, rule: u64, lanes: &[u64]) -> Entries
     requires { ReadableWords words.now }
     ensures { JoinedFor words.now joins rule lanes.now result }
@@ -89,6 +94,7 @@ pub fn joined_for(words: &[u64], joins: bool, rule: u64, lanes: &[u64]) -> Entri
 }
 
 // Whether the lists of the light's rule fit: the lanes, and one signal more where it joins another.
+#[tactic(auto, using(crate::proofs::TestLaws::signals_asks, crate::proofs::TestLaws::lists_new, crate::proofs::TestLaws::lists_lost, crate::proofs::TestLaws::lists_group))]
 pub fn lists_fit(words: &[u64], joins: bool, rule: u64, lanes: usize, joined: Entries) -> bool
     requires { ReadableWords words.now }
     ensures { ListsFit words.now joins rule lanes joined result }
@@ -108,13 +114,11 @@ pub fn lists_fit(words: &[u64], joins: bool, rule: u64, lanes: usize, joined: En
 fn one(b: bool) -> usize
     ensures { result ≡ one_if b }
 {
-    if b {
-        return 1;
-    }
-    0
+    usize::from(b)
 }
 
 // Lines, signals and rules. The rules that go make room.
+#[tactic(auto, using(crate::proofs::TestLaws::counts_are, crate::proofs::TestLaws::one_few, crate::proofs::TestLaws::count_few))]
 fn counts_fit(words: &[u64], drawn: bool, joins: bool, freed: usize) -> bool
     requires { SizedWords words.now × (freed ≤ 128) }
     ensures { result ≡ counts_fit (count_of words.now 2) (count_of words.now 3) (count_of words.now 5) drawn joins freed }
@@ -126,6 +130,7 @@ fn counts_fit(words: &[u64], drawn: bool, joins: bool, freed: usize) -> bool
 }
 
 // The points of a line that is drawn, and of the housing.
+#[tactic(auto, using(crate::proofs::TestLaws::points_drawn, crate::proofs::TestLaws::points_plain))]
 pub fn points_of(drawn: bool, line: usize, housing: usize) -> usize
     requires { (line ≤ 64) × (housing ≤ 64) }
     ensures { result ≡ cond drawn line 0 + housing }
@@ -136,6 +141,7 @@ pub fn points_of(drawn: bool, line: usize, housing: usize) -> usize
     housing
 }
 
+#[tactic(auto, using(crate::proofs::TestLaws::points_are_few))]
 fn points_fit(words: &[u64], freed: u64, more: usize) -> bool
     requires { SizedWords words.now × Few words.now × (all_points words.now ≤ 1024) × (freed ≤ 1024) × (more ≤ 128) }
     ensures { result ≡ leb (all_points words.now + more) (1024 + freed) }
@@ -145,6 +151,7 @@ fn points_fit(words: &[u64], freed: u64, more: usize) -> bool
 }
 
 // Whether the map with the light keeps below the ceilings: lines, signals, rules, lamps, lists and points.
+#[tactic(auto, using(crate::proofs::TestLaws::room_is))]
 pub fn room(
     words: &[u64],
     drawn: bool,

@@ -15,6 +15,7 @@ use signal_row::SignalRow;
 use store::Kind;
 
 // What the light lifts from its line. It comes first, so that a rule that goes makes room for the light's.
+#[tactic(auto, using(crate::proofs::StoreLaws::lift_none, crate::proofs::StoreLaws::lift_some))]
 fn lift_stored(words: &mut [u64], coords: &mut [f64], l: Light, lanes: &[u64])
     requires { Readable words.old coords.old }
     ensures { LiftStored words.old coords.old l lanes.now words.new coords.new }
@@ -25,16 +26,15 @@ fn lift_stored(words: &mut [u64], coords: &mut [f64], l: Light, lanes: &[u64])
     apply_lifts(words, coords, l.line, lanes);
 }
 
+#[tactic(auto, using(crate::proofs::StoreLaws::line_there, crate::proofs::StoreLaws::line_missing))]
 fn line_of(l: Light) -> Option<u64>
     ensures { result ≡ line_maybe l }
 {
-    if l.has_line {
-        return Some(l.line);
-    }
-    None
+    l.has_line.then_some(l.line)
 }
 
 // The rule of the light that is joined.
+#[tactic(auto, using(crate::proofs::StoreLaws::not_joined, crate::proofs::StoreLaws::never_lost, crate::proofs::StoreLaws::joined_put))]
 fn group_stored(words: &mut [u64], l: Light, joined: Entries)
     requires { ReadableWords words.old × (l.joins ≡ true → RowReady words.old l.rule joined) }
     ensures { GroupStored words.old l joined words.new }
@@ -52,6 +52,7 @@ fn group_stored(words: &mut [u64], l: Light, joined: Entries)
 }
 
 // The line, where it is drawn.
+#[tactic(auto, using(place::proofs::LineLaws::part_long, crate::proofs::StoreLaws::line_none, crate::proofs::StoreLaws::line_some, crate::proofs::StoreLaws::coords_few))]
 fn line_stored(words: &mut [u64], coords: &mut [f64], drawn: bool, line: Line)
     requires { LineAsks words.old coords.old drawn line }
     ensures { LineStored words.old coords.old drawn line words.new coords.new }
@@ -64,6 +65,7 @@ fn line_stored(words: &mut [u64], coords: &mut [f64], drawn: bool, line: Line)
     update::push_line(words, coords, &cs[..e]);
 }
 
+#[tactic(auto, using(place::proofs::LineLaws::part_long, crate::proofs::StoreLaws::signal_asks, crate::proofs::StoreLaws::signal_done))]
 fn signal_stored(words: &mut [u64], coords: &mut [f64], row: SignalRow, housing: Line)
     requires { SignalAsks words.old coords.old row housing }
     ensures { SignalStored words.old coords.old row housing words.new coords.new }
@@ -76,6 +78,7 @@ fn signal_stored(words: &mut [u64], coords: &mut [f64], row: SignalRow, housing:
 }
 
 // A rule of the light's own, where it joins no other.
+#[tactic(auto, using(crate::proofs::StoreLaws::rule_none, crate::proofs::StoreLaws::rule_some))]
 fn rule_stored(words: &mut [u64], l: Light, lanes: &[u64])
     requires { RuleAsks words.old l lanes.now }
     ensures { RuleStored words.old l lanes.now words.new }
@@ -89,6 +92,7 @@ fn rule_stored(words: &mut [u64], l: Light, lanes: &[u64])
 }
 
 // All of it.
+#[tactic(auto, using(crate::proofs::StoreLaws::light_stored))]
 pub fn store_light(
     words: &mut [u64],
     coords: &mut [f64],

@@ -24,6 +24,7 @@ fn refused_group(r: Refusal) -> GroupLine
 }
 
 // The line of the light that is joined: one that is there, controls no crosswalks and is a light.
+#[tactic(auto, using(crate::proofs::GroupLaws::group_none, crate::proofs::GroupLaws::group_unknown, crate::proofs::GroupLaws::group_row, crate::proofs::GroupLaws::group_word))]
 pub fn group_line(words: &[u64], group: Option<u64>) -> GroupLine
     requires { ReadableWords words.now }
     ensures { GroupRead words.now group result }
@@ -51,6 +52,7 @@ pub fn group_line(words: &[u64], group: Option<u64>) -> GroupLine
 }
 
 // A line that is there, and the group's where the group has one.
+#[tactic(auto, using(crate::proofs::GroupLaws::existing_unknown))]
 fn check_existing(words: &[u64], group: Option<u64>, s: u64) -> Result<(), Refusal>
     requires { SizedWords words.now }
     ensures { ExistingChecked words.now group s result }
@@ -68,6 +70,7 @@ fn check_existing(words: &[u64], group: Option<u64>, s: u64) -> Result<(), Refus
 }
 
 // A new line is turned down where the group has one.
+#[tactic(auto, using(crate::proofs::GroupLaws::new_free, crate::proofs::GroupLaws::new_taken))]
 fn check_new(group: Option<u64>) -> Result<(), Refusal>
     ensures { checked result ≡ check_new group }
 {
@@ -77,6 +80,7 @@ fn check_new(group: Option<u64>) -> Result<(), Refusal>
     Err(Refusal::WrongGroup(GroupFault::HasALine))
 }
 
+#[tactic(auto, using(crate::proofs::GroupLaws::choice_automatic, crate::proofs::GroupLaws::choice_none, crate::proofs::GroupLaws::choice_existing))]
 pub fn check_choice(
     words: &[u64],
     group: Option<u64>,
@@ -94,6 +98,7 @@ pub fn check_choice(
 }
 
 // The group's line, or one that a rule of the first lane names, or a new one at its end.
+#[tactic(auto, using(crate::proofs::GroupLaws::auto_group, crate::proofs::GroupLaws::auto_found, crate::proofs::GroupLaws::auto_new))]
 fn automatic(words: &[u64], lane: u64, group: Option<u64>) -> LinePlan
     requires { ReadableWords words.now }
     ensures { AutoChosen words.now lane group result }
@@ -109,6 +114,7 @@ fn automatic(words: &[u64], lane: u64, group: Option<u64>) -> LinePlan
 }
 
 // The choice of no line: the group's, where it has one.
+#[tactic(auto, using(crate::proofs::GroupLaws::own_none, crate::proofs::GroupLaws::own_some))]
 fn own_plan(group: Option<u64>) -> LinePlan
     ensures { OwnChosen group result }
 {
@@ -119,6 +125,7 @@ fn own_plan(group: Option<u64>) -> LinePlan
 }
 
 // Where the line comes from.
+#[tactic(auto, using(crate::proofs::GroupLaws::plan_existing, crate::proofs::GroupLaws::plan_none, crate::proofs::GroupLaws::plan_new, crate::proofs::GroupLaws::plan_automatic))]
 pub fn plan_for(
     words: &[u64],
     lanes: &[u64],

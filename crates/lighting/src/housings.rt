@@ -23,6 +23,7 @@ const WIDTH: f64 = 1.2;
 const ELEVATION: f64 = 5.0;
 
 // The point at a fraction of a line.
+#[tactic(auto, using(place::proofs::LineLaws::part_long))]
 pub fn fraction_of(line: Line, t: f64) -> Option<Point3>
     requires { Roomy line }
     ensures { result ≡ point_at_fraction (points_of line) t }
@@ -33,6 +34,7 @@ pub fn fraction_of(line: Line, t: f64) -> Option<Point3>
 }
 
 // Which way a line runs at a station.
+#[tactic(auto, using(place::proofs::LineLaws::part_long))]
 fn direction_of(line: Line, s: f64) -> Option<Point2>
     requires { Roomy line }
     ensures { result ≡ direction_at (points_of line) s }
@@ -42,6 +44,7 @@ fn direction_of(line: Line, s: f64) -> Option<Point2>
     polyline::direction::direction_at(&coords[..e], s)
 }
 
+#[tactic(auto, using(crate::proofs::HousingLaws::station_none, crate::proofs::HousingLaws::station_is))]
 fn station_of(n: Option<NearestPoint>) -> f64
     ensures { result ≡ station_of n }
 {
@@ -52,6 +55,7 @@ fn station_of(n: Option<NearestPoint>) -> f64
 }
 
 // Which way a line runs where it is nearest to a point.
+#[tactic(auto, using(crate::proofs::HousingLaws::near_is))]
 fn direction_near(line: Line, p: Point2) -> Option<Point2>
     requires { Roomy line }
     ensures { result ≡ direction_at (points_of line) (station_of (nearest_point (points_of line) p)) }
@@ -61,6 +65,7 @@ fn direction_near(line: Line, p: Point2) -> Option<Point2>
 }
 
 // From left to right as the traffic sees it.
+#[tactic(auto, unfolding(edit::specs::Light::housing_at))]
 fn housing_at(mid: Point3, dir: Point2) -> CrossSection
     ensures { result.left ∷ result.right ∷ [] ≡ housing_at mid dir }
 {
@@ -90,6 +95,7 @@ fn no_housing(r: Refusal) -> Housing
 }
 
 // Above the middle of the line, across the first lane.
+#[tactic(auto, using(crate::proofs::HousingLaws::no_middle, crate::proofs::HousingLaws::center_missing, crate::proofs::HousingLaws::no_direction))]
 fn synthesize(center: MaybeLine, anchor: Line) -> Housing
     requires { Roomy center.line × Roomy anchor }
     ensures { HousingRead (housing_on (maybe_line center) (points_of anchor) None) result }
@@ -112,6 +118,7 @@ fn synthesize(center: MaybeLine, anchor: Line) -> Housing
 }
 
 // The housing as given, or made up.
+#[tactic(auto, using(crate::proofs::HousingLaws::not_given))]
 pub fn housing_for(center: MaybeLine, anchor: Line, given: bool, cs: &[f64]) -> Housing
     requires { Roomy center.line × Roomy anchor × (given ≡ true → length cs.now / 3 ≤ 64) }
     ensures { HousingRead (housing_on (maybe_line center) (points_of anchor) (cond given (Some cs.now) None)) result }

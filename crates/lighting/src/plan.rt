@@ -24,6 +24,7 @@ use refusal::{Measure, PlaceFault, RecordKind, Refusal};
 use store::Kind;
 
 // A height that is given must be finite and above 0.
+#[tactic(auto, using(crate::proofs::PlanLaws::height_standard, crate::proofs::PlanLaws::height_is))]
 fn bad_height(h: Height) -> bool
     ensures { result ≡ bad_height (height_given h) }
 {
@@ -36,6 +37,7 @@ fn bad_height(h: Height) -> bool
     !(0.0 < x)
 }
 
+#[tactic(auto, using(crate::proofs::PlanLaws::housing_checked, crate::proofs::PlanLaws::housing_unchecked))]
 fn check_housing(given: bool, cs: &[f64]) -> Result<(), Refusal>
     ensures { checked result ≡ check_housing (cond given (Some cs.now) None) }
 {
@@ -55,6 +57,7 @@ fn refused_choice(r: Refusal) -> ChosenLine
 }
 
 // The tests before the line's place, in their order, and where the line comes from.
+#[tactic(auto, using(placing::proofs::CheckLaws::lanes_there, crate::proofs::PlanLaws::choose_height, crate::proofs::PlanLaws::choose_fine))]
 fn choose(words: &[u64], lanes: &[u64], q: SignalRequest, housing: &[f64]) -> ChosenLine
     requires { ReadableWords words.now }
     ensures { ChoiceMade words.now lanes.now q housing.now result }
@@ -90,6 +93,7 @@ fn choose(words: &[u64], lanes: &[u64], q: SignalRequest, housing: &[f64]) -> Ch
 }
 
 // The first lane's centreline. An existing line with a given housing does not ask for it.
+#[tactic(auto, using(crate::proofs::PlanLaws::center_needless))]
 fn center_for(
     words: &[u64],
     coords: &[f64],
@@ -109,6 +113,7 @@ fn center_for(
 }
 
 // The line s of the map.
+#[tactic(auto, using(crate::proofs::PlanLaws::stored_word, crate::proofs::PlanLaws::stored_part))]
 fn stored_line(words: &[u64], coords: &[f64], s: u64) -> PlacedLine
     requires { Readable words.now coords.now }
     ensures { StoredRead (map_of words.now coords.now) s result }
@@ -126,6 +131,7 @@ fn stored_line(words: &[u64], coords: &[f64], s: u64) -> PlacedLine
 }
 
 // The cross-section at the end of the first lane. No line is drawn there, so its ends are not told.
+#[tactic(auto, using(place::proofs::LineLaws::part_long, crate::proofs::PlanLaws::end_missing))]
 fn end_line(words: &[u64], coords: &[f64], center: MaybeLine, lanes: &[u64]) -> PlacedLine
     requires { Readable words.now coords.now × CenterAt (map_of words.now coords.now) (get_or lanes.now 0 0) true center }
     ensures { EndRead (map_of words.now coords.now) lanes.now result }
@@ -149,6 +155,7 @@ fn end_line(words: &[u64], coords: &[f64], center: MaybeLine, lanes: &[u64]) -> 
 }
 
 // What the signal is put above: the line that is used or drawn, or the end of the first lane.
+#[tactic(auto, using(crate::proofs::PlanLaws::center_asked, crate::proofs::PlanLaws::center_line))]
 fn anchor_for(
     words: &[u64],
     coords: &[f64],
@@ -182,6 +189,7 @@ fn refused_plan(r: Refusal) -> LightPlan
 }
 
 // The signal above its anchor.
+#[tactic(auto, using(crate::proofs::PlanLaws::anchored_refused, crate::proofs::PlanLaws::anchored_fine))]
 fn with_housing(
     center: MaybeLine,
     plan: LinePlan,
@@ -213,6 +221,7 @@ fn with_housing(
 }
 
 // Where a line of this source and the signal go.
+#[tactic(auto, using(crate::proofs::PlanLaws::center_anchor, crate::proofs::PlanLaws::light_is))]
 fn place_light(
     words: &[u64],
     coords: &[f64],
@@ -231,6 +240,7 @@ fn place_light(
 }
 
 // A light's plan, or the refusal. Given points and a given housing come beside the request; the lamps play no part in it.
+#[tactic(auto, using(crate::proofs::PlanLaws::plan_refused, crate::proofs::PlanLaws::plan_is))]
 pub fn light_plan(
     words: &[u64],
     coords: &[f64],

@@ -9,6 +9,7 @@ use placing::lists::member;
 use store::Kind;
 
 // The line of a light, a sign or a marking.
+#[tactic(auto, using(crate::proofs::RuleLaws::head_marking, crate::proofs::RuleLaws::head_none))]
 pub fn stops_at(h: RuleHead) -> Option<u64>
     ensures { result ≡ head_line h }
 {
@@ -25,6 +26,7 @@ pub fn stops_at(h: RuleHead) -> Option<u64>
 }
 
 // The line that rule i gives a lane.
+#[tactic(auto, using(crate::proofs::RuleLaws::rule_there, crate::proofs::RuleLaws::rule_lanes, crate::proofs::RuleLaws::line_listed, crate::proofs::RuleLaws::line_unlisted))]
 fn line_on(words: &[u64], i: usize, lane: u64) -> Option<u64>
     requires { ReadableWords words.now × (i < count_of words.now 5) }
     ensures { LineOn words.now i lane result }
@@ -41,13 +43,11 @@ pub fn existing_stop_line(words: &[u64], lane: u64) -> Option<u64>
     ensures { LineFound words.now lane result }
 {
     let n = store::count(words, Kind::Rule);
-    let mut i = 0;
-    while i < n {
+    for i in 0..n {
         let u = line_on(words, i, lane);
         if let Some(l) = u {
             return Some(l);
         }
-        i += 1;
     }
     None
 }

@@ -39,6 +39,7 @@ pub struct BulbNumbers {
 }
 
 // The standard height is half a metre.
+#[tactic(auto, using(crate::proofs::RowLaws::height_standard, crate::proofs::RowLaws::height_given_lem))]
 pub fn height_of(h: Height) -> f64
     ensures { result ≡ or_default (height_given h) default_height }
 {
@@ -49,6 +50,7 @@ pub fn height_of(h: Height) -> f64
 }
 
 // The middle of the housing's part i of n, raised by half the height.
+#[tactic(auto, using(centerline::proofs::Made::whole_fits, crate::proofs::RowLaws::place_none, crate::proofs::RowLaws::place_at_lem))]
 fn bulb_place(housing: Line, height: f64, i: usize, n: usize) -> Point3
     requires { Roomy housing × (i ≤ 4) × (n ≤ 4) }
     ensures { result ≡ bulb_place (points_of housing) height i n }
@@ -94,6 +96,7 @@ fn no_bulb() -> SignalBulb
 }
 
 // Green, yellow and red, evenly along the housing; a pedestrian's light has no yellow.
+#[tactic(auto, using(crate::proofs::RowLaws::vehicle_bulbs, crate::proofs::RowLaws::pedestrian_bulbs))]
 fn standard_bulbs(kind: SignalKind, housing: Line, height: f64) -> Bulbs
     requires { Roomy housing }
     ensures { StandardMade kind (points_of housing) height result }
@@ -121,6 +124,7 @@ fn standard_bulbs(kind: SignalKind, housing: Line, height: f64) -> Bulbs
 }
 
 // A coordinate of the lamps; one that is missing is no number.
+#[tactic(auto, using(crate::proofs::RowLaws::missing))]
 fn lamp_coord(lamps: &[f64], i: usize) -> f64
     ensures { result ≡ get_or lamps.now i nan }
 {
@@ -149,6 +153,7 @@ fn given_bulb(lamps: &[f64], i: usize, look: Look) -> SignalBulb
 }
 
 // How many lamps these are the coordinates of: one that lacks a coordinate counts.
+#[tactic(auto, using(crate::proofs::RowLaws::count_whole, crate::proofs::RowLaws::count_more))]
 pub fn lamp_count(lamps: &[f64]) -> u64
     ensures { result ≡ lamp_count lamps.now }
 {
@@ -174,18 +179,16 @@ fn given_bulbs(lamps: &[f64], looks: [Look; 4]) -> Bulbs
 }
 
 // The lamps as given, or the standard ones.
+#[tactic(auto, using(crate::proofs::RowLaws::bulbs_given, crate::proofs::RowLaws::bulbs_standard))]
 pub fn bulbs_of(q: SignalRequest, housing: Line, lamps: &[f64]) -> Bulbs
     requires { Roomy housing }
     ensures { BulbsRead q (points_of housing) lamps.now result }
 {
     let asked = q.lamps;
     if asked.given {
-        let looks = asked.looks;
-        return given_bulbs(lamps, looks);
+        return given_bulbs(lamps, asked.looks);
     }
-    let h = q.height;
-    let kind = q.kind;
-    standard_bulbs(kind, housing, height_of(h))
+    standard_bulbs(q.kind, housing, height_of(q.height))
 }
 
 fn bulb_numbers(b: SignalBulb) -> BulbNumbers
@@ -255,8 +258,7 @@ pub fn bulbs_on_map(b: Bulbs) -> bool
 {
     let all = b.bulbs;
     let n = b.count;
-    let mut i: usize = 0;
-    while i < 4 {
+    for i in 0..4 {
         if n <= i as u64 {
             return true;
         }
@@ -265,7 +267,6 @@ pub fn bulbs_on_map(b: Bulbs) -> bool
         if !p.on_map() {
             return false;
         }
-        i += 1;
     }
     true
 }

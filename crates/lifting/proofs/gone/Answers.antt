@@ -7,19 +7,16 @@ pub loop-i-init : goal.loop-i-init
 loop-i-init c = (c.count-n.ensures, freeing_start _ _ _ _)
 
 pub gone_at-f-requires : goal.gone_at-f-requires
-gone_at-f-requires c = (c.requires.0, c.requires.1, omega (arith, c.loop-i.invariant.0, c.loop-i-test.true))
+gone_at-f-requires c = (c.requires.0, c.requires.1, omega (arith, c.loop-i.invariant.0))
 
 pub overflow_add-rules : goal.overflow_add-rules
-overflow_add-rules c = omega (arith, c.loop-i.invariant.1.rules_few, c.gone_at-f.ensures.one, c.loop-i-test.true, c.loop-i.invariant.0, rules_few _ c.requires.0)
+overflow_add-rules c = omega (arith, c.loop-i.invariant.1.rules_few, c.gone_at-f.ensures.one, c.loop-i.invariant.0, rules_few _ c.requires.0)
 
 pub overflow_add-points : goal.overflow_add-points
-overflow_add-points c = omega (arith, c.loop-i.invariant.1.points_few, c.gone_at-f.ensures.few, c.loop-i-test.true, c.loop-i.invariant.0, rules_few _ c.requires.0)
-
-pub loop-i-smaller : goal.loop-i-smaller
-loop-i-smaller c = omega (arith, c.loop-i-test.true)
+overflow_add-points c = omega (arith, c.loop-i.invariant.1.points_few, c.gone_at-f.ensures.few, c.loop-i.invariant.0, rules_few _ c.requires.0)
 
 pub loop-i-preserved : goal.loop-i-preserved
-loop-i-preserved c = (c.loop-i.invariant.0, freeing_next _ _ _ _ _ _ _ c.loop-i.invariant.1 c.loop-i-test.true _ c.gone_at-f.ensures)
+loop-i-preserved c = (c.loop-i.invariant.0, freeing_next _ _ _ _ _ _ _ c.loop-i.invariant.1 (omega arith) _ c.gone_at-f.ensures)
 
 pub returns : goal.returns
-returns c = freeing_end _ _ _ _ _ _ _ c.loop-i.invariant.1 c.loop-i-test.false c.loop-i.invariant.0
+returns c = freeing_end _ _ _ _ _ _ _ c.loop-i.invariant.1 (omega arith) c.loop-i.invariant.0

@@ -14,7 +14,7 @@ pub bounds-entries-count : goal.bounds-entries-count
 bounds-entries-count c = omega (arith, c.loop-i.invariant.few, c.loop-i.invariant.room)
 
 pub loop-i-preserved : goal.loop-i-preserved
-loop-i-preserved c = elim c.if-not-member.branch [ then-not-member w ↦ rw (w.entries-is, w.count-is) (sifted_more _ _ _ _ _ c.loop-i.invariant (search rules) c.loop-i-test.true _ c.member.ensures (ap not w.if-not-member.true)) | else-not-member w ↦ rw (w.entries-is, w.count-is) (sifted_less _ _ _ _ _ c.loop-i.invariant (search rules) c.loop-i-test.true _ c.member.ensures (ap not w.if-not-member.false)) ]
+loop-i-preserved c = elim c.if-not-member.branch [ then-not-member w ↦ rw (w.entries-is, w.count-is) (sifted_more _ _ _ _ _ c.loop-i.invariant (search rules) (omega arith) _ c.member.ensures (ap not w.if-not-member.true)) | else-not-member w ↦ rw (w.entries-is, w.count-is) (sifted_less _ _ _ _ _ c.loop-i.invariant (search rules) (omega arith) _ c.member.ensures (ap not w.if-not-member.false)) ]
 
 pub returns : goal.returns
-returns c = sifted_end _ _ _ _ _ c.loop-i.invariant (search rules) c.loop-i-test.false
+returns c = sifted_end _ _ _ _ _ c.loop-i.invariant (search rules) (omega arith)

@@ -1,11 +1,6 @@
 -- `lifting::lanes_left` meets its contract. Assumes nothing.
-use Prim.Native.Nat.{◌-◌}
-use lib.ListN.{length}
 use Rattle.lifting.proofs.OneLaws.{Sifted}
 use Rattle.lifting.proofs.lanes_left.Given as goal
 
 abbrev pub invariant-loop-i : goal.invariant-loop-i
 invariant-loop-i l = Sifted l.list l.lanes l.entries l.count l.i
-
-abbrev pub decreases-loop-i : goal.decreases-loop-i
-decreases-loop-i l = length l.list - l.i

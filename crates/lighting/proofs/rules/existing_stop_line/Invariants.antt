@@ -1,5 +1,4 @@
 -- `lighting::rules::existing_stop_line` meets its contract. Assumes nothing.
-use Prim.Native.Nat.{◌-◌}
 use mathlib.Core.Path.{◌≡◌}
 use Rattle.store.specs.Layout.{count_of}
 use Rattle.lighting.proofs.RuleLaws.{Lineless}
@@ -7,6 +6,3 @@ use Rattle.lighting.proofs.rules.existing_stop_line.Given as goal
 
 abbrev pub invariant-loop-i : goal.invariant-loop-i
 invariant-loop-i l = (l.n ≡ count_of l.words 5) × Lineless l.words l.lane l.n l.i
-
-abbrev pub decreases-loop-i : goal.decreases-loop-i
-decreases-loop-i l = l.n - l.i

