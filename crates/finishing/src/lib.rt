@@ -18,7 +18,7 @@ use refusal::Refusal;
 // So many entries are few: twice as many have room in a list.
 const FEW: u64 = 256;
 
-// A call that is refused: the tally is as it was.
+// A call that is refused: the tally is as it was. The answer holds the tally beside the refusal, so calls that refuse end with this and not with `?`.
 pub fn refused(r: Refusal, tally: Tally) -> Answered
     ensures { (result.called ≡ Err r) × (result.tally ≡ tally) }
 {
@@ -51,6 +51,7 @@ pub fn check_lent(
 }
 
 // Whether all points of a polyline that is to be stored lie on the map: it is 9 otherwise.
+#[tactic(auto, using(crate::proofs::StoredLaws::points_on_map))]
 pub fn stored_ok(points: &[f64]) -> bool
     requires { length points.now % 3 ≡ 0 }
     ensures { result ≡ every point_on_map (polyline_of points.now) }
@@ -59,10 +60,12 @@ pub fn stored_ok(points: &[f64]) -> bool
 }
 
 // Whether numbers are left and the fold has at most 256 entries in each list: no set with so few entries is refused then.
+#[tactic(auto, using(crate::proofs::SettleLaws::fold_long, crate::proofs::SettleLaws::settling))]
 pub fn fold_room(fold: &[u64], late: bool) -> bool
     requires { lists_ok_in fold.now ≡ true }
     ensures { FoldRoom fold.now late result }
 {
+    // in one chain of && what is known of each part lies nested, and the proof doesn't close
     if late {
         return false;
     }
@@ -76,6 +79,7 @@ pub fn fold_room(fold: &[u64], late: bool) -> bool
 }
 
 // The set is normalized and taken into the fold, or the fold is as it was. Few calls come here, so the room to work in is no burden to the others.
+#[tactic(auto, using(crate::proofs::SettleLaws::settle_asks))]
 fn take_any(fold: &mut [u64], set: &mut [u64]) -> Result<(), Refusal>
     requires { (lists_ok_in fold.old ≡ true) × RoomyAll set.old }
     ensures { Tried fold.old set.old result fold.new set.new }
@@ -91,10 +95,7 @@ pub fn settles(fold: &[u64], draft: &mut [u64], late: bool) -> Result<(), Refusa
 {
     let mut copy = [0u64; 3556];
     rows::put(&mut copy, 0, fold);
-    let tried = take_any(&mut copy, draft);
-    if let Err(r) = tried {
-        return Err(r);
-    }
+    take_any(&mut copy, draft)?;
     if late {
         return Err(Refusal::NumbersSpent);
     }

@@ -1,21 +1,20 @@
 -- The rule of `set_regulatory_links`: each refusal, what has passed, room, and whether the links are its own.
-use Prim.Native.Nat.{ℕ, zero, suc, ◌+◌, ◌≤◌, ◌<◌}
+use Prim.Native.Nat.{ℕ, zero, suc, ◌<◌}
 use mathlib.Core.Path.{◌≡◌, refl, sym, ap, ◌∙◌}
 use mathlib.Core.Bool.{Bool, true, false, not, ◌&&◌, cond}
 use Rattle.std.specs.Prelude.{None, Some, Err, Ok, Result}
 use mathlib.Core.List.{List, [], ◌∷◌}
-use native.Mathlib.Numerals.{add-one}
 use native.Mathlib.Omega.{arith}
-use lib.Dec.{eqb, leb}
+use lib.Dec.{eqb}
 use lib.Ieee.{Float}
-use lib.ListN.{length, get_or, drop, drop_of_length-le}
-use lib.Seq.{drop-cons}
-use borrow.Author.Tests.{eq-eqb, ne_eqb, le-leb, lt-leb}
+use lib.ListN.{length, get_or}
+use lib.Pointwise.{pointwise}
+use borrow.Author.Tests.{eq-eqb, ne_eqb}
 use Rattle.refusal.specs.Answer.{refused}
 use Rattle.refusal.specs.declared.Refusal.TheVariants.{WrongLink}
 use Rattle.refusal.specs.declared.LinkFault.TheVariants as link_fault
 use Rattle.rows.specs.Lists.{same_list}
-use Rattle.rows.proofs.SameLists.{list_same, list_differs}
+use Rattle.rows.proofs.SameLists.{list_same}
 use Rattle.store.specs.Layout.{count_of, row_of, coords_of}
 use Rattle.map.specs.declared.RuleHead.{RuleHead}
 use Rattle.map.specs.Record.{Map}
@@ -25,7 +24,7 @@ use Rattle.map.proofs.SoundLaws.{Sound, lanes_few, controlled_few, signals_few, 
 use Rattle.map.proofs.UpdateLaws.{rule_limit}
 use Rattle.edit.specs.Links.{first_entry, to_list, stop_lines_of, same_links}
 use Rattle.linking.specs.LightLinks.{LightChecked}
-use Rattle.link_plan.specs.LinkPlan.{LinkWords, rule_checks, linked_body, RuleChecked, links_fit, same_head_line, SameLines, SameRead}
+use Rattle.link_plan.specs.LinkPlan.{LinkWords, rule_checks, linked_body, RuleChecked, same_head_line, SameLines, SameRead}
 use Rattle.refusal.specs.declared.Refusal.{Refusal}
 
 pub link_words : (ws : List ℕ) (cs : List Float) → Sound ws cs → (i : ℕ) → i < count_of ws 5 → LinkWords ws i
@@ -116,48 +115,14 @@ module _ (ws : List ℕ) (i l c : ℕ) (lines : List ℕ) (h : RuleHead) (read :
     answer = λ cs. by_kind (map_of ws cs) (get_or (row_of ws 5 i) 1 0) (row_of ws 5 i) (coords_of cs 5 i) (λ q. a (read.kind ∙ q)) (λ q. b (read.kind ∙ q)) (λ q. e (read.kind ∙ q));
   }
 
--- ---- room
+-- ---- lists compared
 
-module _ (k l c s : ℕ) where
-  pub lanes_full : 16 < l → false ≡ links_fit k l c s
-  unfolding links_fit
-  lanes_full h = rw (lt-leb l 16 h)
-
-  module _ (a : l ≤ 16) where
-    pub crosswalks_full : 16 < c → false ≡ links_fit k l c s
-    unfolding links_fit
-    crosswalks_full h = rw (le-leb l 16 a, lt-leb c 16 h)
-
-    module _ (b : c ≤ 16) (row : List ℕ) (h : RuleHead) (read : HeadRead row h) (e : k ≡ get_or row 1 0) where
-      pub crossing_fits : h.kind ≡ 5 → leb s 16 ≡ links_fit k l c s
-      unfolding links_fit
-      crossing_fits q = rw (le-leb l 16 a, le-leb c 16 b, eq-eqb k 5 (e ∙ sym read.kind ∙ q))
-
-      pub others_fit : (h.kind ≡ 5 → ⊥) → true ≡ links_fit k l c s
-      unfolding links_fit
-      others_fit q = rw (le-leb l 16 a, le-leb c 16 b, ne_eqb k 5 (λ z. q (read.kind ∙ sym e ∙ z)))
-
--- ---- two lists
-
-module _ (a b : List ℕ) where
-  pub lengths_differ : (length a ≡ length b → ⊥) → false ≡ same_list a b
-  lengths_differ h = sym (list_differs a b (λ e. h (ap length e)))
-
-  module _ (i : ℕ) (long : length a ≡ length b) (inv : same_list (drop i a) (drop i b) ≡ same_list a b) where
-    module _ (h : i < length a) where
-      step : (eqb (get_or a i 0) (get_or b i 0) && same_list (drop (suc i) a) (drop (suc i) b)) ≡ same_list a b
-      unfolding same_list
-      step = rw (drop-cons a i 0 h, drop-cons b i 0 (omega arith)) at inv
-
-      pub entries_differ : (get_or a i 0 ≡ get_or b i 0 → ⊥) → false ≡ same_list a b
-      entries_differ n = rw (ne_eqb (get_or a i 0) (get_or b i 0) n) at step
-
-      pub entries_same : get_or a i 0 ≡ get_or b i 0 → same_list (drop (i + 1) a) (drop (i + 1) b) ≡ same_list a b
-      entries_same e = rw (add-one i) (rw (eq-eqb (get_or a i 0) (get_or b i 0) e) at step)
-
-    pub all_same : length a ≤ i → true ≡ same_list a b
-    unfolding same_list
-    all_same h = rw (drop_of_length-le a h, drop_of_length-le b (let e : length b ≤ i = omega arith in e)) at inv
+pub lists_same : (a b : List ℕ) → pointwise eqb a b ≡ same_list a b
+unfolding same_list
+lists_same [] [] = refl
+lists_same [] (y ∷ b) = refl
+lists_same (x ∷ a) [] = refl
+lists_same (x ∷ a) (y ∷ b) = rw (lists_same a b)
 
 -- ---- a light's line
 

@@ -9,13 +9,11 @@ use map::lookup;
 use refusal::{LinkFault, Refusal};
 
 // Whether the list is the one line.
+#[tactic(auto, using(crate::proofs::PlanLaws::one_line, crate::proofs::PlanLaws::more_lines))]
 fn is_line(lines: &[u64], line: u64) -> bool
     ensures { result ≡ same_list lines.now (line ∷ []) }
 {
-    if lines.len() == 1 {
-        return lines[0] == line;
-    }
-    false
+    lines.len() == 1 && lines[0] == line
 }
 
 // A light by its signals, 8/6 for a crossing, 8/7 for a marking, 8/8 for any other.
@@ -29,6 +27,7 @@ pub fn check_rule(
     requires { LinkWords words.now i }
     ensures { RuleChecked words.now i lanes crosswalks lines.now result }
 {
+    // the kind is the row's number: numbers past those named are kinds too
     let h = lookup::rule_head(words, i);
     if h.kind == 1 {
         let signals = lookup::rule_list(words, i, 41);
@@ -53,19 +52,14 @@ pub fn check_rule(
 }
 
 // Whether the rule's lists keep below the ceiling. A light has its line, and a marking, beside them.
+#[tactic(auto, using(crate::proofs::PlanLaws::below), unfolding(crate::specs::LinkPlan::links_fit))]
 pub fn has_room(words: &[u64], i: usize, lanes: usize, crosswalks: usize, lines: usize) -> bool
     requires { LinkWords words.now i }
     ensures { result ≡ links_fit (get_or (row_of words.now 5 i) 1 0) lanes crosswalks lines }
 {
-    if 16 < lanes {
-        return false;
-    }
-    if 16 < crosswalks {
+    if 16 < lanes || 16 < crosswalks {
         return false;
     }
     let h = lookup::rule_head(words, i);
-    if h.kind == 5 {
-        return lines <= 16;
-    }
-    true
+    h.kind != 5 || lines <= 16
 }

@@ -12,7 +12,7 @@ fn put_lines(words: &mut [u64], i: usize, lines: &[u64])
 {
     let h = lookup::rule_head(words, i);
     if h.kind == 1 {
-        if lines.len() == 0 {
+        if lines.is_empty() {
             update::put_line(words, i, 0, 0);
         } else {
             update::put_line(words, i, 1, lines[0]);

@@ -8,30 +8,18 @@ use map::{RuleHead, lookup};
 fn same_list(a: &[u64], b: &[u64]) -> bool
     ensures { result ≡ same_list a.now b.now }
 {
-    if a.len() != b.len() {
-        return false;
-    }
-    let mut i = 0;
-    while i < a.len() {
-        if a[i] != b[i] {
-            return false;
-        }
-        i += 1;
-    }
-    true
+    a == b
 }
 
 // Whether a light's line is the first of the lines, or none where there is none.
+#[tactic(auto, using(crate::proofs::PlanLaws::no_line, crate::proofs::PlanLaws::its_line_same, crate::proofs::PlanLaws::line_new))]
 fn same_line(h: RuleHead, lines: &[u64]) -> bool
     ensures { result ≡ same_head_line h lines.now }
 {
-    if lines.len() == 0 {
+    if lines.is_empty() {
         return !h.has_line;
     }
-    if h.has_line {
-        return h.line == lines[0];
-    }
-    false
+    h.has_line && h.line == lines[0]
 }
 
 // Only a light and a crossing can get other lines.
@@ -53,11 +41,7 @@ pub fn same_links(words: &[u64], i: usize, lanes: &[u64], crosswalks: &[u64], li
     requires { LinkWords words.now i }
     ensures { SameRead words.now i lanes.now crosswalks.now lines.now result }
 {
-    if !same_list(lookup::rule_list(words, i, 7), lanes) {
-        return false;
-    }
-    if !same_list(lookup::rule_list(words, i, 24), crosswalks) {
-        return false;
-    }
-    same_lines(words, i, lines)
+    same_list(lookup::rule_list(words, i, 7), lanes)
+        && same_list(lookup::rule_list(words, i, 24), crosswalks)
+        && same_lines(words, i, lines)
 }

@@ -1,5 +1,5 @@
 -- The checks of a light's links: each refusal, what has passed, and that they are those of the definition.
-use Prim.Native.Nat.{ℕ, ◌≤◌, ◌<◌}
+use Prim.Native.Nat.{ℕ}
 use mathlib.Core.Path.{◌≡◌, refl, sym}
 use mathlib.Core.Bool.{Bool, true, false, not, ◌&&◌}
 use Rattle.std.specs.Prelude.{Option, Err, Result, Ok}
@@ -7,7 +7,7 @@ use mathlib.Core.List.{List, [], ◌∷◌}
 use native.Mathlib.Omega.{arith}
 use lib.Dec.{eqb, ltb}
 use lib.ListN.{length}
-use borrow.Author.Tests.{eq-eqb, ne_eqb, lt-ltb, le-ltb}
+use borrow.Author.Tests.{eq-eqb, ne_eqb}
 use Rattle.refusal.specs.Answer.{Answer, refused, done, ◌>>=◌, ◌>>◌, refuse_when}
 use Rattle.refusal.specs.declared.Refusal.TheVariants.{Unknown, WrongLink}
 use Rattle.refusal.specs.declared.LinkFault.TheVariants as link_fault
@@ -20,52 +20,6 @@ use Rattle.placing.specs.Answers.{checked}
 use Rattle.linking.specs.Kinds.{KindsRead}
 use Rattle.linking.specs.LightLinks.{kind_checks, light_checks, LightChecked}
 use Rattle.refusal.specs.declared.Refusal.{Refusal}
-
--- ---- by the kinds
-
-module _ (v p : Bool) (l c s : ℕ) where
-  module _ (tp : p ≡ true) where
-    pub kinds_mixed : v ≡ true → refused 8 (2 ∷ []) ≡ kind_checks v p l c s
-    unfolding kind_checks
-    kinds_mixed t = rw (tp, t)
-
-    module _ (tv : v ≡ false) where
-      pub walkers_lanes : (l ≡ 0 → ⊥) → refused 8 (3 ∷ []) ≡ kind_checks v p l c s
-      unfolding kind_checks
-      walkers_lanes h = rw (tp, tv, ne_eqb l 0 h)
-
-      module _ (zl : l ≡ 0) where
-        pub walkers_lines : (s ≡ 0 → ⊥) → refused 8 (3 ∷ []) ≡ kind_checks v p l c s
-        unfolding kind_checks
-        walkers_lines h = rw (tp, tv, eq-eqb l 0 zl, ne_eqb s 0 h)
-
-        pub walkers_fine : s ≡ 0 → done tt ≡ kind_checks v p l c s
-        unfolding kind_checks
-        walkers_fine zs = rw (tp, tv, eq-eqb l 0 zl, eq-eqb s 0 zs, le-ltb 1 s (omega arith))
-
-  module _ (tp : p ≡ false) where
-    module _ (tv : v ≡ true) where
-      pub drivers_crosswalks : (c ≡ 0 → ⊥) → refused 8 (4 ∷ []) ≡ kind_checks v p l c s
-      unfolding kind_checks
-      drivers_crosswalks h = rw (tp, tv, ne_eqb c 0 h)
-
-      module _ (zc : c ≡ 0) where
-        pub drivers_lines : 1 < s → refused 8 (5 ∷ []) ≡ kind_checks v p l c s
-        unfolding kind_checks
-        drivers_lines h = rw (tp, tv, eq-eqb c 0 zc, lt-ltb 1 s h)
-
-        pub drivers_fine : s ≤ 1 → done tt ≡ kind_checks v p l c s
-        unfolding kind_checks
-        drivers_fine h = rw (tp, tv, eq-eqb c 0 zc, le-ltb 1 s h)
-
-    module _ (tv : v ≡ false) where
-      pub none_lines : 1 < s → refused 8 (5 ∷ []) ≡ kind_checks v p l c s
-      unfolding kind_checks
-      none_lines h = rw (tp, tv, lt-ltb 1 s h)
-
-      pub none_fine : s ≤ 1 → done tt ≡ kind_checks v p l c s
-      unfolding kind_checks
-      none_fine h = rw (tp, tv, le-ltb 1 s h)
 
 -- ---- by the signals
 

@@ -1,51 +1,25 @@
 -- The checks of the lists: each refusal, and what has passed.
 use Prim.Native.Nat.{ℕ, suc, ◌-◌, ◌≤◌, ◌<◌}
 use mathlib.Core.Path.{◌≡◌, refl, sym, ◌∙◌}
-use mathlib.Core.Bool.{Bool, true, false, cond}
+use mathlib.Core.Bool.{cond}
 use Rattle.std.specs.Prelude.{Option, None, Some, Err, Ok, Result}
 use mathlib.Core.List.{List, [], ◌∷◌}
 use native.Mathlib.Omega.{arith}
-use lib.Dec.{ltb}
 use lib.Ieee.{Float}
 use lib.ListN.{length, get_or, drop, drop_of_length-le}
 use lib.Seq.{drop-cons}
-use borrow.Author.Tests.{lt-ltb, le-ltb}
-use Rattle.refusal.specs.Answer.{refused, done}
 use Rattle.refusal.specs.declared.Refusal.{Refusal}
 use Rattle.refusal.specs.declared.Refusal.TheVariants.{Unknown}
 use Rattle.refusal.specs.declared.RecordKind.TheVariants as record_kind
-use Rattle.rows.specs.Lists.{first_of, twice, sorted}
-use Rattle.store.specs.Layout.{count_of, records_of}
+use Rattle.rows.specs.Lists.{first_of, sorted}
+use Rattle.store.specs.Layout.{records_of}
 use Rattle.map.specs.Record.{Lane, LineString, Crosswalk}
 use Rattle.map.specs.Lookup.{unknown_in}
 use Rattle.map.specs.Tables.{lane_in, line_string_in, crosswalk_in, map_of}
-use Rattle.map.specs.Access.{index_in}
 use Rattle.map.proofs.ReadLaws.{holds_here, lane_number, line_number, crosswalk_number}
 use Rattle.placing.specs.Answers.{checked}
-use Rattle.linking.specs.Linking.{lesser, known_in, less_if, unknown_least, twice_checks, list_checks, ListsChecked}
+use Rattle.linking.specs.Linking.{known_in, less_if, unknown_least, twice_checks, list_checks, ListsChecked}
 use Rattle.linking.proofs.SortLaws.{sorted_up, least_insert}
-
--- ---- the least so far
-
-module _ (n : ℕ) (b : Option ℕ) where
-  pub lesser_none : b ≡ None → Some n ≡ lesser n b
-  lesser_none e = rw e
-
-  module _ (m : ℕ) (e : b ≡ Some m) where
-    pub lesser_new : n < m → Some n ≡ lesser n b
-    lesser_new h = rw (e, lt-ltb n m h)
-
-    pub lesser_old : m ≤ n → Some m ≡ lesser n b
-    lesser_old h = rw (e, le-ltb n m h)
-
-module _ (ws : List ℕ) (k n : ℕ) (o : Option ℕ) (h : Bool) (e : h ≡ ltb (index_in ws k n) (count_of ws k)) where
-  pub less_known : h ≡ true → o ≡ less_if ws k n o
-  unfolding less_if
-  less_known t = rw (← e, t)
-
-  pub less_unknown : h ≡ false → (q : Option ℕ) → q ≡ lesser n o → q ≡ less_if ws k n o
-  unfolding less_if
-  less_unknown t q f = rw (← e, t) f
 
 -- ---- the walk from the end
 
@@ -72,27 +46,6 @@ module _ (ws : List ℕ) (k : ℕ) (ns : List ℕ) where
           within = omega arith;
           goes = e ∙ rw (inv.goes, d) (sym (least_insert (known_in ws k) (get_or ns (i - 1) 0) (sorted (drop i ns)) (sorted_up (drop i ns))));
         }
-
--- ---- listed twice
-
-module _ (lanes crosswalks lines : List ℕ) (a : Bool) (ea : a ≡ twice lanes) where
-  pub twice_lanes : a ≡ true → refused 3 (1 ∷ []) ≡ twice_checks lanes crosswalks lines
-  unfolding twice_checks
-  twice_lanes t = rw (← ea, t)
-
-  module _ (ta : a ≡ false) (b : Bool) (eb : b ≡ twice crosswalks) where
-    pub twice_crosswalks : b ≡ true → refused 3 (2 ∷ []) ≡ twice_checks lanes crosswalks lines
-    unfolding twice_checks
-    twice_crosswalks t = rw (← ea, ta, ← eb, t)
-
-    module _ (tb : b ≡ false) (c : Bool) (ec : c ≡ twice lines) where
-      pub twice_lines : c ≡ true → refused 3 (3 ∷ []) ≡ twice_checks lanes crosswalks lines
-      unfolding twice_checks
-      twice_lines t = rw (← ea, ta, ← eb, tb, ← ec, t)
-
-      pub twice_none : c ≡ false → done tt ≡ twice_checks lanes crosswalks lines
-      unfolding twice_checks
-      twice_none t = rw (← ea, ta, ← eb, tb, ← ec, t)
 
 -- ---- unknown
 

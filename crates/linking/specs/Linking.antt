@@ -1,6 +1,6 @@
 -- The checks of `set_regulatory_links`, in the parts that one function of the code answers.
 use Rattle.std.specs.Prelude.{ℕ, ◌≡◌, Bool, cond, List, [], ◌∷◌, ltb, Float, Option, None, Some, Result}
-use Rattle.refusal.specs.Answer.{Answer, ◌>>=◌, ◌>>◌, refuse_when}
+use Rattle.refusal.specs.Answer.{Answer, ◌>>◌, refuse_when}
 use Rattle.rows.specs.Lists.{first_of, twice, sorted}
 use Rattle.store.specs.Layout.{count_of}
 use Rattle.map.specs.Record.{Map}

@@ -15,15 +15,11 @@ fn with_signal(words: &[u64], n: u64, rest: Result<(bool, bool), u64>) -> Result
     let Some(i) = f else {
         return Err(n);
     };
-    match rest {
-        Err(x) => Err(x),
-        Ok((vehicle, pedestrian)) => {
-            if lookup::word(words, Kind::Signal, i, 1) == 0 {
-                Ok((true, pedestrian))
-            } else {
-                Ok((vehicle, true))
-            }
-        }
+    let (vehicle, pedestrian) = rest?;
+    if lookup::word(words, Kind::Signal, i, 1) == 0 {
+        Ok((true, pedestrian))
+    } else {
+        Ok((vehicle, true))
     }
 }
 
@@ -33,9 +29,7 @@ pub fn kinds_of(words: &[u64], signals: &[u64]) -> Result<(bool, bool), u64>
     ensures { KindsRead words.now signals.now result }
 {
     let mut kinds = Ok((false, false));
-    let mut i = signals.len();
-    while 0 < i {
-        i -= 1;
+    for i in (0..signals.len()).rev() {
         kinds = with_signal(words, signals[i], kinds);
     }
     kinds

@@ -8,6 +8,7 @@ use crate::kinds::kinds_of;
 use refusal::{LinkFault, RecordKind, Refusal};
 
 // 8/2 to 8/5, by the kinds of the signals and how many lanes, crosswalks and lines there are to be.
+#[tactic(auto, unfolding(crate::specs::LightLinks::kind_checks))]
 fn check_kinds(
     vehicle: bool,
     pedestrian: bool,
@@ -21,22 +22,13 @@ fn check_kinds(
         if vehicle {
             return Err(Refusal::WrongLink(LinkFault::MixedSignals));
         }
-        if lanes != 0 {
-            return Err(Refusal::WrongLink(LinkFault::PedestriansWithLanes));
-        }
-        if lines != 0 {
+        if lanes != 0 || lines != 0 {
             return Err(Refusal::WrongLink(LinkFault::PedestriansWithLanes));
         }
         return Ok(());
     }
-    if vehicle {
-        if crosswalks != 0 {
-            return Err(Refusal::WrongLink(LinkFault::VehiclesWithCrosswalks));
-        }
-        if 1 < lines {
-            return Err(Refusal::WrongLink(LinkFault::SeveralLines));
-        }
-        return Ok(());
+    if vehicle && crosswalks != 0 {
+        return Err(Refusal::WrongLink(LinkFault::VehiclesWithCrosswalks));
     }
     if 1 < lines {
         return Err(Refusal::WrongLink(LinkFault::SeveralLines));
@@ -55,11 +47,11 @@ pub fn check_light(
     requires { SizedWords words.now }
     ensures { LightChecked words.now signals.now lanes crosswalks lines result }
 {
-    if signals.len() == 0 {
+    if signals.is_empty() {
         return Err(Refusal::WrongLink(LinkFault::NoSignals));
     }
-    let k = kinds_of(words, signals);
-    match k {
+    // with map_err and ? the proof has to follow a closure
+    match kinds_of(words, signals) {
         Err(n) => Err(Refusal::Unknown(RecordKind::Signal, n)),
         Ok((vehicle, pedestrian)) => { check_kinds(vehicle, pedestrian, lanes, crosswalks, lines) }
     }

@@ -21,6 +21,7 @@ fn lesser(n: u64, best: Option<u64>) -> Option<u64>
 }
 
 // The least so far, with one number more: it counts where kind k has no such record.
+#[tactic(auto, unfolding(crate::specs::Linking::less_if))]
 fn less_if(words: &[u64], k: Kind, n: u64, best: Option<u64>) -> Option<u64>
     requires { SizedWords words.now }
     ensures { result ≡ less_if words.now (kind_number k) n best }
@@ -37,15 +38,14 @@ pub fn least_unknown(words: &[u64], k: Kind, list: &[u64]) -> Option<u64>
     ensures { result ≡ unknown_least words.now (kind_number k) list.now }
 {
     let mut best = None;
-    let mut i = list.len();
-    while 0 < i {
-        i -= 1;
+    for i in (0..list.len()).rev() {
         best = less_if(words, k, list[i], best);
     }
     best
 }
 
 // 3 for a lane, a crosswalk or a line that is listed twice.
+#[tactic(auto, unfolding(crate::specs::Linking::twice_checks))]
 fn check_twice(lanes: &[u64], crosswalks: &[u64], lines: &[u64]) -> Result<(), Refusal>
     ensures { checked result ≡ twice_checks lanes.now crosswalks.now lines.now }
 {
@@ -71,20 +71,14 @@ pub fn check_lists(
     requires { SizedWords words.now }
     ensures { ListsChecked words.now lanes.now crosswalks.now lines.now result }
 {
-    let t = check_twice(lanes, crosswalks, lines);
-    if let Err(r) = t {
-        return Err(r);
-    }
-    let l = least_unknown(words, Kind::Lane, lanes);
-    if let Some(n) = l {
+    check_twice(lanes, crosswalks, lines)?;
+    if let Some(n) = least_unknown(words, Kind::Lane, lanes) {
         return Err(Refusal::Unknown(RecordKind::Lane, n));
     }
-    let c = least_unknown(words, Kind::Crosswalk, crosswalks);
-    if let Some(n) = c {
+    if let Some(n) = least_unknown(words, Kind::Crosswalk, crosswalks) {
         return Err(Refusal::Unknown(RecordKind::Crosswalk, n));
     }
-    let s = least_unknown(words, Kind::StopLine, lines);
-    if let Some(n) = s {
+    if let Some(n) = least_unknown(words, Kind::StopLine, lines) {
         return Err(Refusal::Unknown(RecordKind::StopLine, n));
     }
     Ok(())

@@ -7,7 +7,7 @@ use mathlib.Core.List.{List, [], ◌∷◌}
 use native.Mathlib.Omega.{arith}
 use lib.Dec.{eqb, ltb, leb}
 use lib.Ieee.{Float}
-use lib.ListN.{length, get_or, take, length-take}
+use lib.ListN.{length, get_or}
 use borrow.Author.Tests.{eq-eqb, leb-true, not-true, not-false}
 use Rattle.refusal.specs.Answer.{Answer, refused, done, refused_as, ◌>>=◌, ◌>>◌, refuse_when, present}
 use Rattle.refusal.specs.declared.Refusal.{Refusal}
@@ -40,10 +40,8 @@ use Rattle.edit.specs.Links.{RegulatoryLinks, link_changes, links_edit, set_regu
 use Rattle.finishing.specs.Finish.{lent_checks, planned, Few, FoldRoom, Settles, TakenIn}
 use Rattle.finishing.proofs.CallLaws.{lent_fine, lent_refused, plan_refused, call_refused, edit_refused}
 use Rattle.finishing.proofs.EndLaws.{room_settles, ends_refused, takes, ends_done}
-use Rattle.linking.specs.declared.Sorted.{Sorted}
-use Rattle.linking.specs.Sorting.{SortedAs}
 use Rattle.linking.specs.Linking.{ListsChecked}
-use Rattle.linking.proofs.FewLaws.{Passed, passed, lists_few, length_once}
+use Rattle.linking.proofs.FewLaws.{Passed, passed, lists_few}
 use Rattle.link_plan.specs.LinkPlan.{LinkWords, rule_checks, RuleChecked, links_fit, SameRead, LinksPut, rule_at}
 use Rattle.link_plan.proofs.PlanLaws.{link_words}
 use Rattle.links.specs.Linked.{rule_links, sorted_links, links_checks, LinksChecked, draft_for, rising_edit, RulePlanned, SetDrafted, LinksEnd, RuleEnds}
@@ -69,14 +67,10 @@ module _ (ws : List ℕ) (a : RegulatoryLinks) (b : Bool) (eb : b ≡ ltb (index
   unfolding links_checks
   lists_next q r h = record { answer = λ cs. rw (rule_found ws cs a.rule (index_in ws 5 a.rule) (there (not-false b q))) (h.answer cs) }
 
--- ---- lists in rising order
+-- ---- lists that can be put in rising order
 
-module _ (xs : List ℕ) (r : Sorted) (h : SortedAs (sorted xs) r) (few : length xs ≤ 64) (once : twice xs ≡ false) where
-  pub sorted_inside : r.count ≤ length r.entries
-  sorted_inside = omega (arith, h.count, h.room, length_once xs once)
-
-  pub sorted_part : r.count ≡ length (take r.count r.entries)
-  sorted_part = omega (arith, length-take r.count r.entries, sorted_inside)
+abbrev pub Sorts : List ℕ → Type 0
+Sorts xs = (length xs ≤ 64) × (twice xs ≡ false)
 
 -- ---- room for the rule's lists
 
@@ -275,12 +269,17 @@ module _ (ws : List ℕ) (cs : List Float) (f : List ℕ) (t : Tally) (s : List 
           list_checks_lem (refused m ds) v d = absurd (let y : ◌≡◌ {A = ℕ} 0 1 = cc in omega arith)
           list_checks_lem (done w) v d = d
 
-          pub lists_passed : Passed (map_of ws cs) a.lanes a.crosswalks a.stop_lines
+          lists_passed : Passed (map_of ws cs) a.lanes a.crosswalks a.stop_lines
           unfolding links_checks
           lists_passed = passed (map_of ws cs) a.lanes a.crosswalks a.stop_lines (list_checks_lem (present (rule_of (map_of ws cs) a.rule) 2 (8 ∷ a.rule ∷ [])) _ (sym (hp.answer cs) ∙ ap checked z))
 
-          pub few : (length a.lanes ≤ 64) × (length a.crosswalks ≤ 32) × (length a.stop_lines ≤ 64)
+          few : (length a.lanes ≤ 64) × (length a.crosswalks ≤ 32) × (length a.stop_lines ≤ 64)
           few = lists_few ws cs (known is_fine).sound a.lanes a.crosswalks a.stop_lines lists_passed
+
+          pub each_sorts : Sorts a.lanes × Sorts a.crosswalks × Sorts a.stop_lines
+          each_sorts =
+              let wide : length a.crosswalks ≤ 64 = omega (arith, few.1) in
+              ((few.0, lists_passed.lanes_once), (wide, lists_passed.crosswalks_once), (few.2, lists_passed.lines_once))
 
           pub call_left : (x y w : List ℕ) → x ≡ sorted a.lanes → y ≡ sorted a.crosswalks → w ≡ sorted a.stop_lines → (r : Result (ℕ × Option SectionNames) Refusal) (new : Lent)
               → RuleEnds lent (rule_links a.rule x y w) r new → CallLeft (set_regulatory_links a) lent r new

@@ -22,6 +22,7 @@ use refusal::{RecordKind, Refusal};
 use store::Kind;
 
 // 2 for a rule that the map lacks, then the checks of the lists.
+#[tactic(auto, using(crate::proofs::CarryLaws::lists_next))]
 fn check_links(
     words: &[u64],
     rule: u64,
@@ -49,10 +50,7 @@ fn rule_plan(
     requires { LinkWords words.now i }
     ensures { RulePlanned words.now i lanes crosswalks lines.now result }
 {
-    let c = link_plan::check::check_rule(words, i, lanes, crosswalks, lines);
-    if let Err(r) = c {
-        return Err(r);
-    }
+    link_plan::check::check_rule(words, i, lanes, crosswalks, lines)?;
     if link_plan::check::has_room(words, i, lanes, crosswalks, lines.len()) {
         return Ok(());
     }
@@ -60,6 +58,7 @@ fn rule_plan(
 }
 
 // The rule is modified where its links change.
+#[tactic(auto, unfolding(edit::specs::Links::link_changes))]
 fn draft_set(draft: &mut [u64], same: bool, rule: u64)
     requires { length draft.old ≡ set_words }
     ensures { SetDrafted same rule draft.new }
@@ -78,6 +77,7 @@ fn draft_set(draft: &mut [u64], same: bool, rule: u64)
 }
 
 // What settling the rule's set with the fold answers. Only where the fold is nearly full is a set drafted to find out, in memory of its own.
+#[tactic(auto, using(crate::proofs::CarryLaws::fold_takes))]
 fn check_fold(fold: &[u64], same: bool, rule: u64) -> Result<(), Refusal>
     requires { lists_ok_in fold.now ≡ true }
     ensures { Settles fold.now (link_changes same rule) false result }
@@ -173,12 +173,6 @@ pub fn set_regulatory_links(
     let a = sorted_of(lanes);
     let b = sorted_of(crosswalks);
     let c = sorted_of(stop_lines);
-    let x = a.entries;
-    let y = b.entries;
-    let z = c.entries;
-    let l = a.count;
-    let m = b.count;
-    let n = c.count;
     link_rule(
         words,
         coords,
@@ -186,8 +180,8 @@ pub fn set_regulatory_links(
         tally,
         set,
         rule,
-        &x[..l],
-        &y[..m],
-        &z[..n],
+        &a.entries[..a.count],
+        &b.entries[..b.count],
+        &c.entries[..c.count],
     )
 }

@@ -7,6 +7,3 @@ use Rattle.links.proofs.check_links.Goals as goal
 
 pub returns-then-not-holds : goal.returns-then-not-holds
 returns-then-not-holds c = K.no_such_rule _ (rule_links c.args.rule c.args.lanes.now c.args.crosswalks.now c.args.lines.now) _ c.holds.ensures (ap not c.if-not-holds.true)
-
-pub returns : goal.returns
-returns c = K.lists_next _ (rule_links c.args.rule c.args.lanes.now c.args.crosswalks.now c.args.lines.now) _ c.holds.ensures (ap not c.if-not-holds.false) _ c.check_lists.ensures

@@ -1,6 +1,5 @@
 -- `links::link_rule` meets its contract. Assumes nothing.
 use Rattle.links.proofs.CarryLaws as K
-use native.Mathlib.Omega.{arith}
 use Rattle.links.proofs.link_rule.Goals as goal
 
 pub find-f-requires : goal.find-f-requires

@@ -4,6 +4,3 @@ use Rattle.linking.proofs.kinds.kinds_of.Given as goal
 
 abbrev pub invariant-loop-i : goal.invariant-loop-i
 invariant-loop-i l = Reading l.words l.signals l.kinds l.i
-
-abbrev pub decreases-loop-i : goal.decreases-loop-i
-decreases-loop-i l = l.i

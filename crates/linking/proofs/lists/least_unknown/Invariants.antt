@@ -5,6 +5,3 @@ use Rattle.linking.proofs.lists.least_unknown.Given as goal
 
 abbrev pub invariant-loop-i : goal.invariant-loop-i
 invariant-loop-i l = Least l.words (kind_number l.k) l.list l.best l.i
-
-abbrev pub decreases-loop-i : goal.decreases-loop-i
-decreases-loop-i l = l.i
