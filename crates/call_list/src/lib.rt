@@ -46,6 +46,7 @@ pub struct RunAnswer {
     pub tally: Tally,
 }
 
+#[tactic(auto, using(crate::proofs::Replies::done_reply, crate::proofs::Replies::refused_reply))]
 pub fn reply_of(c: Result<(u64, Option<SectionNames>), Refusal>) -> Reply
     ensures { Replied c result }
 {
@@ -68,6 +69,7 @@ pub fn reply_of(c: Result<(u64, Option<SectionNames>), Refusal>) -> Reply
 }
 
 // The answer to what is no call, by what every call tests first.
+#[tactic(auto, using(crate::proofs::Replies::no_call_reply, crate::proofs::Replies::no_call_refused))]
 fn no_call_reply(c: Result<(), Refusal>) -> Reply
     ensures { NoCallReplied c result }
 {
@@ -98,23 +100,28 @@ pub fn not_called(words: &[u64], coords: &[f64], fold: &[u64], tally: Tally, set
 pub fn in_words(a: Answered) -> Carried
     ensures { (Replied a.called result.reply) × (result.tally ≡ a.tally) }
 {
-    let called = a.called;
-    let tally = a.tally;
     Carried {
-        reply: reply_of(called),
-        tally,
+        reply: reply_of(a.called),
+        tally: a.tally,
     }
 }
 
 // Whether the n entries from index at lie within a pool of len entries.
+#[tactic(auto, using(crate::proofs::Places::same_test, crate::proofs::Places::too_many))]
 pub fn within(len: usize, at: u64, n: u64) -> bool
     ensures { result ≡ leb (at + n) len }
 {
     let size = len as u64;
-    if size < n {
-        return false;
-    }
-    at <= size - n
+    n <= size && at <= size - n
+}
+
+// The n entries of a pool from index at.
+#[tactic(auto, using(crate::proofs::Decode::part_cut))]
+fn entries<T>(pool: &[T], at: usize, n: usize) -> &[T]
+    requires { at + n ≤ length pool.now }
+    ensures { result.now ≡ cut pool.now at n }
+{
+    &pool[at..at + n]
 }
 
 // The n numbers of a pool from index at.
@@ -122,9 +129,7 @@ pub fn list_at(pool: &[u64], at: u64, n: u64) -> &[u64]
     requires { at + n ≤ length pool.now }
     ensures { result.now ≡ cut pool.now at n }
 {
-    let a = at as usize;
-    let e = a + n as usize;
-    &pool[a..e]
+    entries(pool, at as usize, n as usize)
 }
 
 // The n measures of a pool from index at.
@@ -132,42 +137,36 @@ pub fn reals_at(pool: &[f64], at: u64, n: u64) -> &[f64]
     requires { at + n ≤ length pool.now }
     ensures { result.now ≡ cut pool.now at n }
 {
-    let a = at as usize;
-    let e = a + n as usize;
-    &pool[a..e]
+    entries(pool, at as usize, n as usize)
 }
 
 // The same of a part that a call reads; one that it does not read is not looked at.
 fn part_within(read: bool, len: usize, at: u64, n: u64) -> bool
     ensures { result ≡ (not read || leb (at + n) len) }
 {
-    if read {
-        return within(len, at, n);
-    }
-    true
+    !read || within(len, at, n)
 }
 
 // The n measures of a pool from index at, where they are read; else none.
+#[tactic(auto, using(crate::proofs::Decode::part_room, crate::proofs::Decode::part_read, crate::proofs::Decode::part_unread))]
 pub fn part_at(pool: &[f64], read: bool, at: u64, n: u64) -> &[f64]
     requires { part_within read pool.now at n ≡ true }
     ensures { result.now ≡ part read pool.now at n }
 {
     if read {
-        return reals_at(pool, at, n);
+        reals_at(pool, at, n)
+    } else {
+        &pool[..0]
     }
-    &pool[..0]
 }
 
 // The measure of a pool at index at, where it is read; else 0.
+#[tactic(auto, using(crate::proofs::Decode::part_room, crate::proofs::Decode::measure_read, crate::proofs::Decode::measure_unread))]
 pub fn measure_at(pool: &[f64], read: bool, at: u64) -> f64
     requires { part_within read pool.now at 1 ≡ true }
     ensures { result ≡ measure read pool.now at }
 {
-    if read {
-        let i = at as usize;
-        return pool[i];
-    }
-    0.0
+    if read { pool[at as usize] } else { 0.0 }
 }
 
 // Row i of a list of calls.
@@ -175,43 +174,32 @@ pub fn row_at(calls: &[u64], i: usize) -> &[u64]
     requires { i * row_words + row_words ≤ length calls.now }
     ensures { result.now ≡ cut calls.now (i * row_words) row_words }
 {
-    let a = i * ROW;
-    let e = a + ROW;
-    &calls[a..e]
+    entries(calls, i * ROW, ROW)
 }
 
 // Whether the offset or station of a light's line is read, by the choice and the placement of the line.
 pub fn light_measured(choice: u64, placement: u64) -> bool
     ensures { result ≡ (eqb choice 2 && measured placement) }
 {
-    if choice != 2 {
-        return false;
-    }
-    placement < 2
+    choice == 2 && placement < 2
 }
 
 // Whether the given coordinates of a light's line are read.
 pub fn light_pointed(choice: u64, placement: u64) -> bool
     ensures { result ≡ (eqb choice 2 && pointed placement) }
 {
-    if choice != 2 {
-        return false;
-    }
-    placement == 2
+    choice == 2 && placement == 2
 }
 
 // Whether the parts of its pools that a stop line's row reads lie within them.
+#[tactic(auto, unfolding(crate::specs::Rows::line_within))]
 pub fn line_within(row: &[u64], lists: &[u64], reals: &[f64]) -> bool
     requires { length row.now ≡ row_words }
     ensures { result ≡ line_within row.now lists.now reals.now }
 {
-    if !within(lists.len(), row[1], row[2]) {
-        return false;
-    }
-    if !part_within(row[3] < 2, reals.len(), row[5], 1) {
-        return false;
-    }
-    part_within(row[3] == 2, reals.len(), row[6], row[7])
+    within(lists.len(), row[1], row[2])
+        && part_within(row[3] < 2, reals.len(), row[5], 1)
+        && part_within(row[3] == 2, reals.len(), row[6], row[7])
 }
 
 // The same of the lanes and the two measures of a light's row.
@@ -219,85 +207,77 @@ fn light_within(row: &[u64], lists: &[u64], reals: &[f64]) -> bool
     requires { length row.now ≡ row_words }
     ensures { result ≡ (leb (get_or row.now 1 0 + get_or row.now 2 0) (length lists.now) && part_within (light_measured row.now) reals.now (get_or row.now 20 0) 1 && part_within (flag (get_or row.now 7 0)) reals.now (get_or row.now 21 0) 1) }
 {
-    if !within(lists.len(), row[1], row[2]) {
-        return false;
-    }
-    let m = light_measured(row[3], row[5]);
-    if !part_within(m, reals.len(), row[20], 1) {
-        return false;
-    }
-    part_within(row[7] != 0, reals.len(), row[21], 1)
+    within(lists.len(), row[1], row[2])
+        && part_within(light_measured(row[3], row[5]), reals.len(), row[20], 1)
+        && part_within(row[7] != 0, reals.len(), row[21], 1)
 }
 
 // The same of a light's row.
+#[tactic(auto, unfolding(crate::specs::Rows::signal_within))]
 pub fn signal_within(row: &[u64], lists: &[u64], reals: &[f64]) -> bool
     requires { length row.now ≡ row_words }
     ensures { result ≡ signal_within row.now lists.now reals.now }
 {
-    if !light_within(row, lists, reals) {
-        return false;
-    }
-    let p = light_pointed(row[3], row[5]);
-    if !part_within(p, reals.len(), row[22], row[23]) {
-        return false;
-    }
-    if !part_within(row[6] != 0, reals.len(), row[24], row[25]) {
-        return false;
-    }
-    part_within(row[9] != 0, reals.len(), row[26], row[27])
+    light_within(row, lists, reals)
+        && part_within(light_pointed(row[3], row[5]), reals.len(), row[22], row[23])
+        && part_within(row[6] != 0, reals.len(), row[24], row[25])
+        && part_within(row[9] != 0, reals.len(), row[26], row[27])
 }
 
 // The same of a row of links.
+#[tactic(auto, unfolding(crate::specs::Rows::links_within))]
 pub fn links_within(row: &[u64], lists: &[u64]) -> bool
     requires { length row.now ≡ row_words }
     ensures { result ≡ links_within row.now lists.now }
 {
-    if !within(lists.len(), row[1], row[2]) {
-        return false;
-    }
-    if !within(lists.len(), row[4], row[5]) {
-        return false;
-    }
-    within(lists.len(), row[6], row[7])
+    within(lists.len(), row[1], row[2])
+        && within(lists.len(), row[4], row[5])
+        && within(lists.len(), row[6], row[7])
 }
 
 fn side_number(e: EndName) -> u64
     ensures { result ≡ side_number e.side }
 {
-    let side = e.side;
-    match side {
+    match e.side {
         LaneSide::Left => 0,
         LaneSide::Right => 1,
     }
 }
 
 // The words of an answer.
+#[tactic(auto, using(crate::proofs::Replies::unnamed_words, crate::proofs::Replies::named_words))]
 pub fn reply_words(r: Reply) -> [u64; ANSWER]
     ensures { result ≡ reply_words r }
 {
-    let ends = r.ends;
-    let Some(names) = ends else {
+    let Some(names) = r.ends else {
         return [r.what, r.number, r.detail, r.second, 0, 0, 0, 0, 0];
     };
     let left = names.left;
     let right = names.right;
-    let a = side_number(left);
-    let b = side_number(right);
     [
-        r.what, r.number, r.detail, r.second, 1, left.lane, a, right.lane, b,
+        r.what,
+        r.number,
+        r.detail,
+        r.second,
+        1,
+        left.lane,
+        side_number(left),
+        right.lane,
+        side_number(right),
     ]
 }
 
 // The words of an answer, from index at.
+#[tactic(auto, using(crate::proofs::Replies::put_words))]
 pub fn put_reply(answers: &mut [u64], at: usize, r: Reply)
     requires { at + reply_length ≤ length answers.old }
     ensures { answers.new ≡ pasted answers.old at (reply_words r) reply_length }
 {
-    let row = reply_words(r);
-    rows::put(answers, at, &row);
+    rows::put(answers, at, &reply_words(r));
 }
 
 // Whether there is room for the answers of n rows: 14 otherwise.
+#[tactic(auto, using(crate::proofs::Ends::no_room, crate::proofs::Ends::has_room))]
 pub fn check_room(n: usize, answers: &[u64]) -> Result<usize, Refusal>
     ensures { ran result ≡ room_answer n answers.now }
 {
@@ -308,6 +288,7 @@ pub fn check_room(n: usize, answers: &[u64]) -> Result<usize, Refusal>
 }
 
 // What a list of calls tests: 12 and 13 as a call does, then 14; and how many rows there are.
+#[tactic(auto, using(crate::proofs::Ends::lent_refused, crate::proofs::Ends::by_room))]
 pub fn check_run(
     words: &[u64],
     coords: &[f64],
@@ -319,9 +300,6 @@ pub fn check_run(
 ) -> Result<usize, Refusal>
     ensures { ran result ≡ run_answer (length calls.now / row_words) (record { words = words.now; coords = coords.now; fold = fold.now; tally = tally; set = set.now }) answers.now }
 {
-    let c = finishing::check_lent(words, coords, fold, tally, set);
-    match c {
-        Err(x) => Err(x),
-        Ok(()) => check_room(calls.len() / ROW, answers),
-    }
+    finishing::check_lent(words, coords, fold, tally, set)?;
+    check_room(calls.len() / ROW, answers)
 }

@@ -15,11 +15,9 @@ use call_list::{ANSWER, Carried};
 fn answer_with(c: Carried, tally: &mut [u64; 3], answer: &mut [u64; ANSWER]) -> u64
     ensures { (tally.new ≡ tally_words c.tally) × (answer.new ≡ reply_words c.reply) × (result ≡ c.reply.what) }
 {
-    let t = c.tally;
-    let reply = c.reply;
-    tally_words::put_tally(tally, t);
-    *answer = call_list::reply_words(reply);
-    reply.what
+    tally_words::put_tally(tally, c.tally);
+    *answer = call_list::reply_words(c.reply);
+    c.reply.what
 }
 
 // A stop line across the lanes: placement 0 at the lane's end, 1 at a station, 2 at the given coordinates; rule 0 stop sign, 1 marking, 2 none.

@@ -23,10 +23,7 @@ pub fn stop_line_by(
 ) -> Carried
     ensures { StepLeft (line_by lanes.now placement measure given.now rule) (record { words = words.old; coords = coords.old; fold = fold.old; tally = tally; set = set.old }) result.reply (record { words = words.new; coords = coords.new; fold = fold.new; tally = result.tally; set = set.new }) }
 {
-    if 2 < placement {
-        return call_list::not_called(words, coords, fold, tally, set);
-    }
-    if 2 < rule {
+    if 2 < placement || 2 < rule {
         return call_list::not_called(words, coords, fold, tally, set);
     }
     let how = boundary::placement_of(placement, measure);

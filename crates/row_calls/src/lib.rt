@@ -1,4 +1,6 @@
 // One row of a list of calls carried out.
+//
+// What a row is answered is left to answers in proofs/: the check does not find the step where the function names its lemma.
 #![tactic(auto)]
 
 ghost use Rattle.std.specs.Prelude.{◌≡◌, length};
@@ -9,6 +11,7 @@ ghost use Rattle.call_list.specs.Rows.{row_words, light_by, line_row, signal_row
 use call_list::Carried;
 use changes::Tally;
 
+#[tactic(auto, using(call_list::proofs::Decode::line_lanes, call_list::proofs::Decode::line_measure, call_list::proofs::Decode::line_given))]
 fn line_row(
     words: &mut [u64],
     coords: &mut [f64],
@@ -34,6 +37,7 @@ fn line_row(
 }
 
 // A light whose lanes, numbers and measures are read: its given line, its housing and its lamps, and the call.
+#[tactic(auto, using(crate::proofs::Laws::line_within_lem))]
 fn light_row(
     words: &mut [u64],
     coords: &mut [f64],
@@ -59,6 +63,7 @@ fn light_row(
     )
 }
 
+#[tactic(auto, using(call_list::proofs::Decode::signal_lanes, call_list::proofs::Decode::signal_measure))]
 fn signal_row(
     words: &mut [u64],
     coords: &mut [f64],
@@ -85,6 +90,7 @@ fn signal_row(
     )
 }
 
+#[tactic(auto, using(call_list::proofs::Decode::links_lanes, call_list::proofs::Decode::links_crosswalks, call_list::proofs::Decode::links_lines))]
 fn links_row(
     words: &mut [u64],
     coords: &mut [f64],
@@ -122,15 +128,10 @@ pub fn carry_out(
     requires { length row.now ≡ row_words }
     ensures { StepLeft (call_at row.now lists.now reals.now) (record { words = words.old; coords = coords.old; fold = fold.old; tally = tally; set = set.old }) result.reply (record { words = words.new; coords = coords.new; fold = fold.new; tally = result.tally; set = set.new }) }
 {
-    let what = row[0];
-    if what == 1 {
-        return line_row(words, coords, fold, tally, set, row, lists, reals);
+    match row[0] {
+        1 => line_row(words, coords, fold, tally, set, row, lists, reals),
+        2 => signal_row(words, coords, fold, tally, set, row, lists, reals),
+        3 => links_row(words, coords, fold, tally, set, row, lists),
+        _ => call_list::not_called(words, coords, fold, tally, set),
     }
-    if what == 2 {
-        return signal_row(words, coords, fold, tally, set, row, lists, reals);
-    }
-    if what == 3 {
-        return links_row(words, coords, fold, tally, set, row, lists);
-    }
-    call_list::not_called(words, coords, fold, tally, set)
 }

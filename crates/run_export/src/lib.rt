@@ -26,27 +26,22 @@ pub extern "C" fn lane_map_run_calls(
 {
     let t = tally_words::tally_of(tally);
     let a = runs::run_calls(words, coords, fold, t, set, calls, lists, reals, answers);
-    let k = a.tally;
-    tally_words::put_tally(tally, k);
-    let ran = a.ran;
-    match ran {
+    tally_words::put_tally(tally, a.tally);
+    match a.ran {
         Ok(_) => 0,
         Err(x) => x.number(),
     }
 }
 
 // What was written, in two words: 0 and how many bytes, or the refusal and 0.
+#[tactic(auto, using(crate::proofs::Laws::words_done, crate::proofs::Laws::words_refused))]
 fn put_written(t: &mut [u64; 2], w: Result<usize, Refusal>)
     ensures { t.new ≡ written_words w }
 {
-    match w {
-        Ok(n) => {
-            *t = [0, n as u64];
-        }
-        Err(x) => {
-            *t = [x.number(), 0];
-        }
-    }
+    *t = match w {
+        Ok(n) => [0, n as u64],
+        Err(x) => [x.number(), 0],
+    };
 }
 
 // A run from a map file to the change set file of its running fold. The result is 0, or 12, 13 or 14 where nothing was carried out; a buffer
@@ -71,13 +66,10 @@ pub extern "C" fn lane_map_run_opened(
     let a = runs::run_opened(
         file, words, coords, fold, set, calls, lists, reals, answers, buffer,
     );
-    let ran = a.ran;
-    match ran {
+    match a.ran {
         Ok(_) => {
-            let t = a.tally;
-            let w = a.written;
-            tally_words::put_tally(tally, t);
-            put_written(written, w);
+            tally_words::put_tally(tally, a.tally);
+            put_written(written, a.written);
             0
         }
         Err(x) => x.number(),

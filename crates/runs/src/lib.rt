@@ -13,7 +13,7 @@ use changes::Tally;
 use refusal::Refusal;
 use store::layout;
 
-// The first n rows, with room for their answers.
+// The first n rows, with room for their answers. Row and answer are found by their index, as the definition's rows are.
 fn run_rows(
     words: &mut [u64],
     coords: &mut [f64],
@@ -30,15 +30,12 @@ fn run_rows(
     ensures { RowsLeft (list_to (row_at calls.now lists.now reals.now) n) (record { words = words.old; coords = coords.old; fold = fold.old; tally = tally; set = set.old }) answers.old (record { words = words.new; coords = coords.new; fold = fold.new; tally = result; set = set.new }) answers.new }
 {
     let mut kept = tally;
-    let mut i = 0;
-    while i < n {
+    for i in 0..n {
         let at = i * call_list::ANSWER;
         let row = call_list::row_at(calls, i);
         let step = row_calls::carry_out(words, coords, fold, kept, set, row, lists, reals);
-        let reply = step.reply;
         kept = step.tally;
-        call_list::put_reply(answers, at, reply);
-        i += 1;
+        call_list::put_reply(answers, at, step.reply);
     }
     kept
 }
@@ -70,13 +67,11 @@ pub fn run_calls(
 }
 
 // Whether the fold and the set have their lengths, and whether there is room for the answers of n rows.
+#[tactic(auto, using(crate::proofs::OpenedLaws::bad_fold, crate::proofs::OpenedLaws::bad_set, crate::proofs::OpenedLaws::by_room))]
 fn check_sets(fold: &[u64], set: &[u64], n: usize, answers: &[u64]) -> Result<usize, Refusal>
     ensures { ran result ≡ sets_answer n fold.now set.now answers.now }
 {
-    if fold.len() != changes::layout::WORDS {
-        return Err(Refusal::BadSet);
-    }
-    if set.len() != changes::layout::WORDS {
+    if fold.len() != changes::layout::WORDS || set.len() != changes::layout::WORDS {
         return Err(Refusal::BadSet);
     }
     call_list::check_room(n, answers)
@@ -95,10 +90,7 @@ fn check_opened(
 ) -> Result<usize, Refusal>
     ensures { Tested file.now calls.now (record { words = words.now; coords = coords.now; fold = fold.now; tally = no_tally; set = set.now }) answers.now result }
 {
-    if words.len() != layout::WORDS {
-        return Err(Refusal::BadMap);
-    }
-    if coords.len() != layout::COORDS {
+    if words.len() != layout::WORDS || coords.len() != layout::COORDS {
         return Err(Refusal::BadMap);
     }
     let checked = check_sets(fold, set, calls.len() / call_list::ROW, answers);

@@ -3,14 +3,14 @@ use Rattle.call_list.proofs.Decode.{is_line_lem, is_signal, is_links, is_none}
 use borrow.Author.Rules.{rules}
 use Rattle.row_calls.proofs.carry_out.Goals as goal
 
-pub returns-then-what-eq1 : goal.returns-then-what-eq1
-returns-then-what-eq1 c = search (rules, is_line_lem)
+pub returns-in-1 : goal.returns-in-1
+returns-in-1 c = search (rules, is_line_lem)
 
-pub returns-then-what-eq2 : goal.returns-then-what-eq2
-returns-then-what-eq2 c = search (rules, is_signal)
+pub returns-in-2 : goal.returns-in-2
+returns-in-2 c = search (rules, is_signal)
 
-pub returns-then-what-eq3 : goal.returns-then-what-eq3
-returns-then-what-eq3 c = search (rules, is_links)
+pub returns-in-3 : goal.returns-in-3
+returns-in-3 c = search (rules, is_links)
 
-pub returns : goal.returns
-returns c = search (rules, is_none)
+pub returns-in_default : goal.returns-in_default
+returns-in_default c = search (rules, is_none)

@@ -1,19 +1,13 @@
 -- `row_calls::signal_row` meets its contract. Assumes nothing.
 use mathlib.Core.Bool.{not}
 use mathlib.Core.Path.{ap}
-use Rattle.call_list.proofs.Decode.{signal_none, signal_lanes, signal_measure, signal_height, signal_step}
+use Rattle.call_list.proofs.Decode.{signal_none, signal_height, signal_step}
 use Rattle.row_calls.proofs.Laws.{numbers_of_lem, parts_of}
 use borrow.Author.Rules.{rules}
 use Rattle.row_calls.proofs.signal_row.Goals as goal
 
 pub returns-then-not-signal_within : goal.returns-then-not-signal_within
 returns-then-not-signal_within c = search (rules, signal_none)
-
-pub list_at-lanes-requires : goal.list_at-lanes-requires
-list_at-lanes-requires c = search (rules, signal_lanes)
-
-pub measure_at-measure-requires : goal.measure_at-measure-requires
-measure_at-measure-requires c = search (rules, signal_measure)
 
 pub measure_at-height-requires : goal.measure_at-height-requires
 measure_at-height-requires c = signal_height _ _ _ _ c.signal_within.ensures (ap not c.if-not-signal_within.false)

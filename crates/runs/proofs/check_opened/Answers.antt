@@ -2,12 +2,11 @@
 use Rattle.runs.proofs.OpenedLaws.{tested_words, tested_coords, tested_done, tested_sets, tested_file}
 use borrow.Author.Rules.{rules}
 use Rattle.runs.proofs.check_opened.Goals as goal
+use Rattle.runs.proofs.check_opened.Goals.{then-words-ne-WORDS-via-then-words-ne-WORDS, then-words-ne-WORDS-via-else-words-ne-WORDS+then-coords-ne-COORDS}
 
 pub returns-then-words-ne-WORDS : goal.returns-then-words-ne-WORDS
-returns-then-words-ne-WORDS c = search (rules, tested_words)
-
-pub returns-then-coords-ne-COORDS : goal.returns-then-coords-ne-COORDS
-returns-then-coords-ne-COORDS c = search (rules, tested_coords)
+returns-then-words-ne-WORDS c =
+    elim c.then-words-ne-WORDS.branch [ then-words-ne-WORDS-via-then-words-ne-WORDS w ↦ search (rules, tested_words) | then-words-ne-WORDS-via-else-words-ne-WORDS+then-coords-ne-COORDS w ↦ search (rules, tested_coords) ]
 
 pub returns-in-Ok : goal.returns-in-Ok
 returns-in-Ok c = search (rules, tested_done)

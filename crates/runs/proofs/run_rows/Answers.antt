@@ -10,11 +10,8 @@ loop-i-init c = first_row _ _ _ _ _ _ c.requires
 pub carry_out-step-requires : goal.carry_out-step-requires
 carry_out-step-requires c = search (rules, row_words_lem)
 
-pub overflow_add-i : goal.overflow_add-i
-overflow_add-i c = omega (arith, c.ranges.n, c.loop-i-test.true)
-
 pub loop-i-preserved : goal.loop-i-preserved
-loop-i-preserved c = next_row _ _ _ _ _ _ _ _ _ _ _ _ _ c.loop-i.invariant c.loop-i-test.true
+loop-i-preserved c = next_row _ _ _ _ _ _ _ _ _ _ _ _ _ c.loop-i.invariant (omega arith)
     (record { words = omega (arith, c.words-1.given, c.loop-i.invariant.going.fits.words); coords = omega (arith, c.coords-1.given, c.loop-i.invariant.going.fits.coords); fold = omega (arith, c.fold-1.given, c.loop-i.invariant.going.fits.fold); set = omega (arith, c.set-1.given, c.loop-i.invariant.going.fits.set) })
     c.carry_out-step.ensures c.row_at-row.ensures c.put_reply.ensures
 
