@@ -73,35 +73,35 @@ EDITS = [
     ('group not named', 'edit/specs/Light', 'modified = d.modified ++ (entity 8 r.num ∷ []);', 'modified = d.modified;'),
     # ---- the light's line and its stop rules
     ('lifts only under a line that stood', 'edit/specs/Light', 'lift_all a.lanes three one.line in',
-     'lift_all a.lanes three (elim p.plan [ use_line s ↦ some s | use_none ↦ none | draw x ↦ none ]) in'),
-    ('signs of another type lifted', 'edit/specs/Light', 'is_stop_at s (sign type shape (some line)) = eqb type 1 && eqb line s', 'is_stop_at s (sign type shape (some line)) = eqb type 2 && eqb line s'),
+     'lift_all a.lanes three (elim p.plan [ use_line s ↦ Some s | use_none ↦ None | draw x ↦ None ]) in'),
+    ('signs of another type lifted', 'edit/specs/Light', 'is_stop_at s (sign type shape (Some line)) = eqb type 1 && eqb line s', 'is_stop_at s (sign type shape (Some line)) = eqb type 2 && eqb line s'),
     ('markings not lifted', 'edit/specs/Light', 'is_stop_at s (marking line) = eqb line s', 'is_stop_at s (marking line) = false'),
     ('lanes not taken off', 'edit/specs/Light', 'lifted r (eased ks) = rule_with r r.body ks r.controlled ∷ []', 'lifted r (eased ks) = r ∷ []'),
-    ('crosswalk rule\'s line taken as the lane\'s', 'edit/specs/Light', 'stops_at (crossing c stop_lines) = none', 'stops_at (crossing c []) = none\nstops_at (crossing c (l ∷ ls)) = some l'),
-    ('only stop signs\' lines found', 'edit/specs/Light', 'stops_at (sign type shape line) = line', 'stops_at (sign type shape line) = cond (eqb type 1) line none'),
-    ('line found on any lane', 'edit/specs/Light', 'existing_stop_line m n = first_of (λ r. cond (member n r.lanes) (stops_at r.body) none) m.rules', 'existing_stop_line m n = first_of (λ r. stops_at r.body) m.rules'),
+    ('crosswalk rule\'s line taken as the lane\'s', 'edit/specs/Light', 'stops_at (crossing c stop_lines) = None', 'stops_at (crossing c []) = None\nstops_at (crossing c (l ∷ ls)) = Some l'),
+    ('only stop signs\' lines found', 'edit/specs/Light', 'stops_at (sign type shape line) = line', 'stops_at (sign type shape line) = cond (eqb type 1) line None'),
+    ('line found on any lane', 'edit/specs/Light', 'existing_stop_line m n = first_of (λ r. cond (member n r.lanes) (stops_at r.body) None) m.rules', 'existing_stop_line m n = first_of (λ r. stops_at r.body) m.rules'),
     ('line sought on the second lane', 'edit/specs/Light', 'auto_plan m lanes (or_else group (existing_stop_line m (get_or lanes 0 0)))', 'auto_plan m lanes (or_else group (existing_stop_line m (get_or lanes 1 0)))'),
     ('group\'s line passed over', 'edit/specs/Light', 'auto_plan m lanes (or_else group (existing_stop_line m (get_or lanes 0 0)))', 'auto_plan m lanes (existing_stop_line m (get_or lanes 0 0))'),
     ('lane\'s line before the group\'s', 'edit/specs/Light', 'auto_plan m lanes (or_else group (existing_stop_line m (get_or lanes 0 0)))', 'auto_plan m lanes (or_else (existing_stop_line m (get_or lanes 0 0)) group)'),
-    ('group\'s line is no line', 'edit/specs/Light', 'light_line (light signals line) = done line', 'light_line (light signals line) = done none'),
-    ('automatic always draws', 'edit/specs/Light', 'auto_plan m lanes (some s) = done (use_line s)', 'auto_plan m lanes (some s) = draw_plan m lanes (AtLaneEnd f0) []'),
+    ('group\'s line is no line', 'edit/specs/Light', 'light_line (light signals line) = done line', 'light_line (light signals line) = done None'),
+    ('automatic always draws', 'edit/specs/Light', 'auto_plan m lanes (Some s) = done (use_line s)', 'auto_plan m lanes (Some s) = draw_plan m lanes (AtLaneEnd f0) []'),
     ('existing line not taken', 'edit/specs/Light', 'plan_for m lanes group (Existing s) cs = done (use_line s)', 'plan_for m lanes group (Existing s) cs = done use_none'),
     ('no line though the group has one', 'edit/specs/Light', 'plan_for m lanes group NoLine cs = done (own_plan group)', 'plan_for m lanes group NoLine cs = done use_none'),
     ('no line lifts nothing', 'edit/specs/Light', 'lift_all a.lanes three one.line in',
-     'lift_all a.lanes three (elim a.choice [ Automatic ↦ one.line | Existing s ↦ one.line | New how ↦ one.line | NoLine ↦ none ]) in'),
+     'lift_all a.lanes three (elim a.choice [ Automatic ↦ one.line | Existing s ↦ one.line | New how ↦ one.line | NoLine ↦ None ]) in'),
     ('a new line beside the group\'s', 'edit/specs/Light', 'check_choice m group (New how) = check_new group', 'check_choice m group (New how) = done tt'),
     ('group\'s line replaced by the light\'s', 'edit/specs/Light',
      'extended (light signals line) n s = light (signals ++ (n ∷ [])) (or_else line s)', 'extended (light signals line) n s = light (signals ++ (n ∷ [])) (or_else s line)',
      'where both are there they are the same line'),
     # ---- the law's own words, against the edit
-    ('law: own line of a crosswalk rule', 'run/specs/Law', 'own_line (crossing c ls) = none', 'own_line (crossing c ls) = some c'),
+    ('law: own line of a crosswalk rule', 'run/specs/Law', 'own_line (crossing c ls) = None', 'own_line (crossing c ls) = Some c'),
     ('law: line of a rule on no such lane', 'run/specs/Law', 'cond (member n r.lanes) (or_next (own_line r.body) rest) rest', 'or_next (own_line r.body) rest'),
     ('law: line of any rule as the group\'s', 'run/specs/Law', 'cond (eqb r.num n) (own_line r.body) rest', 'or_next (own_line r.body) rest'),
-    ('law: group without a line', 'run/specs/Law', 'groups_line (some g) rs = line_of_rule g rs', 'groups_line (some g) rs = none'),
+    ('law: group without a line', 'run/specs/Law', 'groups_line (Some g) rs = line_of_rule g rs', 'groups_line (Some g) rs = None'),
     ('law: line of the second lane', 'run/specs/Law', 'first_lanes_line (n ∷ ns) rs = line_on_lane n rs', 'first_lanes_line (n ∷ ns) rs = first_lanes_line ns rs'),
     ('law: new line numbered otherwise', 'run/specs/Law', '(max 1 m.next) (groups_line', '(m.next + 1) (groups_line'),
-    ('law: automatic is new', 'run/specs/Law', 'chosen_line Automatic drawn own found = some (found_or drawn (or_next own found))', 'chosen_line Automatic drawn own found = some drawn'),
-    ('law: halt line of every sign', 'run/specs/Law', 'halt_line (sign type shape l) = cond (eqb type 1) l none', 'halt_line (sign type shape l) = l'),
+    ('law: automatic is new', 'run/specs/Law', 'chosen_line Automatic drawn own found = Some (found_or drawn (or_next own found))', 'chosen_line Automatic drawn own found = Some drawn'),
+    ('law: halt line of every sign', 'run/specs/Law', 'halt_line (sign type shape l) = cond (eqb type 1) l None', 'halt_line (sign type shape l) = l'),
     ('law: a set names what it lists as created', 'run/specs/Law', 'names c a = listed c.created a || listed c.modified a || listed c.deleted a', 'names c a = listed c.created a'),
     ('law: numbers rise from 0 per call', 'run/specs/Law', 'handed c = map (λ a. a.num) c.created', 'handed c = 0 ∷ map (λ a. a.num) c.created'),
 ]
@@ -140,7 +140,8 @@ def law_alone(here, root):
         modules.add(module)
         text = read(source(module))
         ahead += REFERENCE.findall(text)
-        types |= {(crate, file or 'lib', name) for crate, file, name in DECLARED.findall(text)}
+        # the types of the library come with it
+        types |= {(crate, file or 'lib', name) for crate, file, name in DECLARED.findall(text) if os.path.isdir('%s/crates/%s' % (here, crate))}
     crates = {crate for crate, _, _ in modules} | {crate for crate, _, _ in types}
     files = {(crate, 'lib') for crate in crates} | {(crate, file) for crate, file, _ in types}
     library = {(crate, file): each_use(read('%s/crates/%s/src/%s.rt' % (here, crate, file))) for crate, file in files}

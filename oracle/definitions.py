@@ -25,8 +25,7 @@ HERE = os.path.dirname(os.path.abspath(__file__))
 ROOT = os.path.dirname(HERE)
 ORACLE = os.path.join(HERE, 'target', 'release', 'oracle')
 
-HEAD = '''use Rattle.std.specs.Prelude.{ℕ, ◌≡◌, refl, true, List, [], ◌∷◌, ◌++◌, Float}
-use Rattle.std.proofs.Math.Option.{none, some}
+HEAD = '''use Rattle.std.specs.Prelude.{ℕ, ◌≡◌, refl, true, List, [], ◌∷◌, ◌++◌, Float, None, Some}
 use Rattle.std.specs.Float.{binary64}
 use Rattle.std.specs.Float.Ieee.{of_bits, to_bits, neg}
 use Rattle.refusal.specs.Answer.{Answer, refused, done}
@@ -56,8 +55,7 @@ state_of (refused n ds) b = opening (record { next = 0; lanes = []; boundaries =
 '''
 
 # What is compared of an answer. A file of its own: sides and arrows have the same names.
-SHOWN = '''use Rattle.std.specs.Prelude.{ℕ, [], ◌∷◌, ◌++◌}
-use Rattle.std.proofs.Math.Option.{Option, none, some}
+SHOWN = '''use Rattle.std.specs.Prelude.{ℕ, [], ◌∷◌, ◌++◌, Option, None, Some}
 use Rattle.refusal.specs.Answer.{Answer, refused, done}
 use Rattle.codec.specs.Format
 use Rattle.codec.specs.Format.{Bytes}
@@ -74,8 +72,8 @@ side_number Left = 0
 side_number Right = 1
 
 abbrev names_of : Option SectionNames → Bytes
-names_of none = 0 ∷ []
-names_of (some x) = 1 ∷ x.left.lane ∷ side_number x.left.side ∷ x.right.lane ∷ side_number x.right.side ∷ []
+names_of None = 0 ∷ []
+names_of (Some x) = 1 ∷ x.left.lane ∷ side_number x.left.side ∷ x.right.lane ∷ side_number x.right.side ∷ []
 
 abbrev left : Outcome → Bytes
 left o = change_file.write o.changes ++ names_of o.ends ++ map_file.write o.state.map ++ change_file.write o.state.fold
@@ -143,7 +141,7 @@ class Tokens:
         return 'Given', self.coordinates()
 
     def option(self, read):
-        return 'none' if self.number() == 0 else '(some (%s))' % read()
+        return 'None' if self.number() == 0 else '(Some (%s))' % read()
 
     def bulb(self):
         x, y, z = self.double(), self.double(), self.double()
