@@ -2,17 +2,15 @@
 ghost use Rattle.std.specs.Prelude.{◌≤◌, length};
 ghost use Rattle.std.specs.Iterator.{IsFinite};
 
-use crate::{hex_at, past, word_at};
+use crate::{digit, hex_at, past, word_at};
 use std::num::f64_to_bits_with_nan;
 
-// The byte of two digits; none where there are no two.
+// The byte of two digits; none where there are no two, or they are more than a byte.
 fn byte_of(pair: &[u8]) -> Option<u8> {
     let [high, low] = pair else {
         return None;
     };
-    let high = char::from(*high).to_digit(16)?;
-    let low = char::from(*low).to_digit(16)?;
-    u8::try_from(high * 16 + low).ok()
+    u8::try_from((digit(*high) << 4) | digit(*low)).ok()
 }
 
 // The bytes of a word, as far as there is room for them: how many.
@@ -36,8 +34,8 @@ pub fn expect_bytes(text: &[u8], at: usize, bytes: &[u8]) -> usize {
         return 0;
     }
     let word = word_at(text, at);
-    let stored = word.value.chunks_exact(2).map(byte_of);
-    let met = stored.eq(bytes.iter().map(|b| Some(*b)));
+    let stored = word.value.chunks_exact(2).map_while(byte_of);
+    let met = stored.eq(bytes.iter().copied());
     past(word, met)
 }
 
@@ -75,11 +73,8 @@ pub fn hash_doubles(xs: &[f64], from: u64) -> u64 {
 pub fn expect_file(text: &[u8], at: usize, bytes: &[u8]) -> usize {
     if text.get(at) == Some(&b'#') {
         let word = hex_at(text, at + 1);
-        return if word.value == Some(hash(bytes)) {
-            word.next
-        } else {
-            0
-        };
+        let met = word.value == hash(bytes);
+        return if met { word.next } else { 0 };
     }
     expect_bytes(text, at, bytes)
 }

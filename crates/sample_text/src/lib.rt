@@ -53,28 +53,36 @@ pub fn word_at(text: &[u8], at: usize) -> Word<&[u8]>
     }
 }
 
-// A word as a number to a base; none where it is no such number.
-fn number_of(word: &[u8], base: u32) -> Option<u64>
-    requires { (2 ≤ base) × (base ≤ 36) }
-{
-    let digits = str::from_utf8(word).ok()?;
-    u64::from_str_radix(digits, base).ok()
+// Every byte counts as a digit, so that each word is some number: the replays compare what it says, and refuse none.
+pub(crate) fn digit(b: u8) -> u64 {
+    let d = u64::from(b);
+    if d < 58 { d % 16 } else { d % 16 + 9 }
 }
 
-// A double's pattern; none where the word is no such number.
-pub fn hex_at(text: &[u8], at: usize) -> Word<Option<u64>> {
+// A word in hexadecimal digits; of more than sixteen, the last ones.
+fn hex_of(word: &[u8]) -> u64 {
+    word.iter().fold(0, |n, b| (n << 4) | digit(*b))
+}
+
+// A word in decimal digits, modulo 2^64.
+fn number_of(word: &[u8]) -> u64 {
+    word.iter()
+        .fold(0u64, |n, b| n.wrapping_mul(10).wrapping_add(digit(*b)))
+}
+
+// A double's pattern.
+pub fn hex_at(text: &[u8], at: usize) -> Word<u64> {
     let word = word_at(text, at);
     Word {
-        value: number_of(word.value, 16),
+        value: hex_of(word.value),
         next: word.next,
     }
 }
 
-// A word that is no number counts as 0.
 pub fn number_at(text: &[u8], at: usize) -> Word<u64> {
     let word = word_at(text, at);
     Word {
-        value: number_of(word.value, 10).unwrap_or(0),
+        value: number_of(word.value),
         next: word.next,
     }
 }
@@ -92,13 +100,11 @@ pub fn letter(b: u8) -> u64 {
     u64::from(b)
 }
 
-// A word that is no pattern, as `nan`, is a NaN.
+// Every NaN pattern is a NaN.
 pub fn double_at(text: &[u8], at: usize) -> Word<f64> {
     let word = hex_at(text, at);
     Word {
-        value: word
-            .value
-            .map_or(f64::NAN, |bits| f64_from_bits_with_nan(bits)),
+        value: f64_from_bits_with_nan(word.value),
         next: word.next,
     }
 }
@@ -143,7 +149,7 @@ pub fn expect_number(text: &[u8], at: usize, n: u64) -> usize {
         return 0;
     }
     let word = word_at(text, at);
-    let met = number_of(word.value, 10) == Some(n);
+    let met = number_of(word.value) == n;
     past(word, met)
 }
 
@@ -155,7 +161,7 @@ pub fn expect(text: &[u8], at: usize, x: f64) -> usize {
     let met = if x.is_nan() {
         matches!(word.value, b"nan")
     } else {
-        number_of(word.value, 16) == Some(x.to_bits())
+        hex_of(word.value) == x.to_bits()
     };
     past(word, met)
 }
