@@ -5,10 +5,12 @@
 pub mod answers;
 mod decimal;
 pub mod map;
+mod output;
 pub mod requests;
 pub mod sets;
 
 pub use decimal::Decimal;
+pub use output::Output;
 use std::fmt;
 
 // A kind of record.
