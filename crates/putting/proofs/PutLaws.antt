@@ -1,20 +1,20 @@
 -- How what one call writes goes on with what the next one writes.
-use Prim.Native.Nat.{ℕ, zero, suc, ◌+◌, ◌/◌, ◌^◌, ◌≤◌, ◌<◌}
+use Prim.Native.Nat.{ℕ, suc, ◌+◌, ◌^◌, ◌≤◌, ◌<◌}
 use mathlib.Core.Path.{◌≡◌, refl, sym, ap, ◌∙◌}
 use mathlib.Core.Bool.{Bool, true, false, cond}
 use mathlib.Core.List.{List, [], ◌∷◌, ◌++◌, append_assoc, append-nil}
 use native.Mathlib.Omega.{arith}
 use native.Mathlib.Numerals.{add-one}
 use lib.Dec.{ltb}
-use lib.ListN.{length, set, take, drop, length-append}
-use lib.Seq.{sets, length-sets, sets-eq, take_all, take-append_seam}
+use lib.ListN.{length, set, length-append}
+use lib.Seq.{sets, length-sets, sets-eq, take_all}
 use borrow.Author.Tests.{lt-ltb, le-ltb, ltb-false}
 use Rattle.rows.specs.Lists.{list_to, joined}
 use Rattle.rows.specs.Rows.{pasted}
 use Rattle.rows.proofs.Indexed.{length-list_to}
 use Rattle.codec.specs.Format.{Bytes, Format, only, counted}
 use Rattle.codec.specs.Items.{list}
-use Rattle.codec.specs.Number.{number, groups, split}
+use Rattle.codec.specs.Number.{number, split}
 use Rattle.codec.specs.Answers.{Wrote}
 use Rattle.fields.specs.Fields.{Place}
 use Rattle.std.specs.Prelude.{Some, None}
@@ -129,34 +129,20 @@ module _ (form old : Bytes) (p : Place) where
       pub put_short : length old < next → PutAt form old p (Some next) old
       put_short k = record { next = goes; long = refl; made = λ a b ep er m. let z = same_place er in absurd (let y : ⊥ = omega arith in y) }
 
-      pub put_pasted : next ≤ length old → (new : Bytes) → new ≡ pasted old i form (length form) → PutAt form old p (Some next) new
-      unfolding pasted
-      put_pasted k new w =
-          let m : new ≡ sets old i form = w ∙ rw (take_all (length form) form (omega arith)) (sym (sets-eq form old i (omega arith))) in
+      put_made : (new : Bytes) → new ≡ sets old i form → PutAt form old p (Some next) new
+      put_made new m =
           record {
             next = goes;
             long = ap length m ∙ length-sets old i form;
             made = λ a b ep er k. let z : i ≡ a = same_place (sym e ∙ ep) in rw (← z) m;
           }
 
-pub ruleset putting_form = (put_lost, put_far, put_short, put_pasted)
+      pub put_wrote : (new : Bytes) (r : ℕ) → Wrote form old i r new → PutAt form old p (Some next) new
+      put_wrote new r w = put_made new w.made
 
--- ---- a form at the beginning of a buffer of its own
+      pub put_pasted : next ≤ length old → (new : Bytes) → new ≡ pasted old i form (length form) → PutAt form old p (Some next) new
+      unfolding pasted
+      put_pasted k new w =
+          put_made new (w ∙ rw (take_all (length form) form (omega arith)) (sym (sets-eq form old i (omega arith))))
 
-pub front : (form old : Bytes) → length form ≤ length old → take (length form) (sets old 0 form) ≡ form
-front form old h = rw (sets-eq form old 0 (omega arith)) (take-append_seam form (drop (0 + length form) old))
-
-few_groups : (k n : ℕ) → length (groups k n) ≤ k
-unfolding groups
-few_groups zero n = omega arith
-few_groups (suc k) n = split (ltb n 128) (λ t. rw t (omega arith)) (λ t. let r = few_groups k (n / 128) in rw t (omega arith))
-
-pub number_short : (n : ℕ) → length (number.write n) ≤ 10
-unfolding number
-number_short n = few_groups 10 n
-
-pub number_front : (n : ℕ) (old new : Bytes) (r : ℕ) → length old ≡ 10 → Wrote (number.write n) old 0 r new → take r new ≡ number.write n
-number_front n old new r h w =
-    let s = number_short n in
-    let e : r ≡ length (number.write n) = omega (arith, w.next) in
-    rw (e, w.made) (front (number.write n) old (omega arith))
+pub ruleset putting_form = (put_lost, put_far, put_short, put_wrote, put_pasted)

@@ -8,15 +8,18 @@ ghost use Rattle.putting.specs.Putting.{PutAt};
 
 use fields::Place;
 
-// A number has at most ten groups of seven bits.
-const LONGEST: usize = 10;
-
+// A number goes into its place: a form of its own that is then copied takes half as long again.
+#[tactic(auto, using(crate::proofs::PutLaws::putting_form), unfolding(crate::specs::Putting::ahead))]
 pub fn put_number(out: &mut [u8], p: Place, n: u64) -> Place
     ensures { PutAt (number.write n) out.old p result out.new }
 {
-    let mut bytes = [0; LONGEST];
-    let size = codec::write_number(&mut bytes, 0, n);
-    put_bytes(out, p, &bytes[..size])
+    let i = p?;
+    let next = i.checked_add(codec::number_size(n))?;
+    if out.len() < next {
+        return Some(next);
+    }
+    codec::write_number(out, i, n);
+    Some(next)
 }
 
 // A form that is written already.
