@@ -84,3 +84,26 @@ module _ (f : ℕ → Point3) (l : Line) where
         count = omega (arith, b.count, r.count);
         points = r.points ∙ rw (add-one i) (ap₂ (λ (xs : List Point3) (q : Point3). xs ++ (q ∷ [])) b.points e);
       }
+
+-- the first i points of the array are f's
+pub record Filled (f : ℕ → Point3) (cs : List Float) (i : ℕ) : Type 0 where
+  pub long : length cs ≡ 192
+  pub made : list_to (point_in cs) i ≡ list_to f i
+
+pub filled_none : (f : ℕ → Point3) (cs : List Float) → length cs ≡ 192 → Filled f cs 0
+unfolding list_to
+filled_none f cs h = record { long = h; made = refl }
+
+pub filled_next : (f : ℕ → Point3) (cs : List Float) (i : ℕ) (p : Point3) → Filled f cs i → i < 64 → p ≡ f i
+    → Filled f (set (set (set cs (i * 3) p.x) (i * 3 + 1) p.y) (i * 3 + 2) p.z) (i + 1)
+unfolding list_to
+filled_next f cs i p w h e =
+    let l : i * 3 + 2 < length cs = omega (arith, w.long) in
+    record {
+      long = simp length-set w.long;
+      made =
+          rw (add-one i)
+          (ap₂ (λ (l : List Point3) (q : Point3). l ++ (q ∷ []))
+          (list_to_same _ _ i (stored_point cs i p.x p.y p.z) ∙ w.made)
+          (stored_here cs i p.x p.y p.z l ∙ e));
+    }

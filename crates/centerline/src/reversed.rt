@@ -3,7 +3,7 @@ ghost use Rattle.std.specs.Prelude.{◌≡◌, ◌/◌, ◌≤◌, length};
 ghost use Rattle.geometry.specs.Polyline.{polyline_of, reversed};
 ghost use Rattle.centerline.specs.Line.{points_of};
 
-use crate::{Line, empty};
+use crate::Line;
 use polyline::length::point;
 
 pub fn reversed(cs: &[f64]) -> Line
@@ -11,9 +11,14 @@ pub fn reversed(cs: &[f64]) -> Line
     ensures { points_of result ≡ reversed (polyline_of cs.now) }
 {
     let n = cs.len() / 3;
-    let mut line = empty();
+    let mut coords = [0.0; 192];
     for i in 0..n {
-        line.push(point(cs, n - 1 - i));
+        let p = point(cs, n - 1 - i);
+        let k = i * 3;
+        coords[k] = p.x;
+        coords[k + 1] = p.y;
+        coords[k + 2] = p.z;
     }
-    line
+    // an array that becomes the line: with a line that grows by its points all of it is copied once more
+    Line { coords, count: n }
 }
