@@ -7,7 +7,7 @@ use native.Mathlib.Omega.{arith}
 use Rattle.std.specs.Ordering.{nat_cmp, ordering_then}
 use Rattle.std.proofs.lemmas.Bool.Decides.{nat_tests}
 use Rattle.rows.specs.Lists.{every, keep, by_order}
-use Rattle.rows.proofs.Bools.{clash, is_lt, is_eq, is_gt}
+use Rattle.rows.proofs.Bools.{clash, is_lt, is_eq, is_gt, lt_is, eq_is}
 use Rattle.map.specs.Entity.{EntityRef, compare_refs, same_ref, listed}
 use Rattle.std.specs.declared.cmp.Ordering.TheVariants.{Less, Equal, Greater}
 use Rattle.std.specs.declared.cmp.Ordering.{Ordering as Order}
@@ -36,6 +36,27 @@ compared a b = rw (nat_told a.kind b.kind, nat_told a.num b.num) (both (compare 
     both Ordering.lt p = refl
     both Ordering.eq p = refl
     both Ordering.gt p = refl
+
+-- told by the kinds, and among equal kinds by the numbers
+module _ (a b : EntityRef) where
+  pub kind_below : a.kind < b.kind → Less ≡ order_of (compare_refs a b)
+  unfolding compare_refs
+  kind_below h = rw (lt_is a.kind b.kind h)
+
+  pub kind_same : (o : Order) → o ≡ nat_cmp a.num b.num → a.kind ≡ b.kind → o ≡ order_of (compare_refs a b)
+  unfolding compare_refs
+  kind_same o n e = n ∙ rw (eq_is a.kind b.kind e) (nat_told a.num b.num)
+
+  pub kind_above : (a.kind < b.kind → ⊥) → (a.kind ≡ b.kind → ⊥) → Greater ≡ order_of (compare_refs a b)
+  unfolding compare_refs
+  kind_above h e = go (compare a.kind b.kind) refl
+    where
+      go : (o : Ordering) → compare a.kind b.kind ≡ o → Greater ≡ order_of (by_order o Ordering.lt (compare a.num b.num) Ordering.gt)
+      go Ordering.lt q = absurd (h (is_lt a.kind b.kind q))
+      go Ordering.eq q = absurd (e (is_eq a.kind b.kind q))
+      go Ordering.gt q = refl
+
+pub ruleset comparing = (kind_below, kind_same, kind_above)
 
 -- ---- the step of a walk
 pub some_left : (n : ℕ) → (n ≡ 0 → ⊥) → 0 < n

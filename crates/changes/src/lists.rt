@@ -62,12 +62,18 @@ pub fn put_entry(out: &mut [u64], p: usize, e: Entry)
     out[p + 1] = e.number;
 }
 
-// How a stands to b.
-#[tactic(auto, using(crate::proofs::WalkLaws::compared))]
+// How a stands to b: as the derived order has it, which takes two of these three answers at once and half as long again.
+#[tactic(auto, using(crate::proofs::WalkLaws::comparing))]
 pub fn compare(a: Entry, b: Entry) -> Ordering
     ensures { result ≡ order_of (compare_refs (ref_of a) (ref_of b)) }
 {
-    a.cmp(&b)
+    if a.kind < b.kind {
+        Ordering::Less
+    } else if a.kind == b.kind {
+        a.number.cmp(&b.number)
+    } else {
+        Ordering::Greater
+    }
 }
 
 // How the first entry of t stands to the first of s; an empty list comes last.
