@@ -27,6 +27,12 @@ const CHOICES: [&[u8]; 4] = [b"auto", b"existing", b"new", b"none"];
 
 const GIVEN: [&[u8]; 2] = [b"-", b"+"];
 
+// Names of eight letters or more are told apart by their last eight.
+fn last_letters(name: &[u8]) -> &[u8] {
+    let from = name.len().saturating_sub(8);
+    name.get(from..).unwrap_or(name)
+}
+
 // What a word may say.
 trait Said: Drop {
     fn said(text: &[u8], at: usize) -> Word<Self>;
@@ -70,7 +76,7 @@ impl<'a> Words<'a> {
         if first.is_some_and(|b| b.is_ascii_digit()) {
             return Some(self.value());
         }
-        let word = self.word();
+        let word = last_letters(self.word());
         let case = names.iter().position(|name| *name == word)?;
         Some(case as u64)
     }
