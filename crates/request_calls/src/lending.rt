@@ -7,7 +7,7 @@ use changes::Tally;
 use sample_text::bytes;
 use std::alloc::{AllocError, Global};
 
-// How many words and coordinates a map's tables have, and how many words a set's; and room for a file.
+// How many words and coordinates a map's tables have, and how many words a set's; and the room for a file where no other is asked for.
 const MAP_WORDS: usize = 13671;
 
 const MAP_COORDS: usize = 105280;
@@ -79,6 +79,13 @@ impl Memory {
     pub fn new(alloc: Global) -> Result<Memory, AllocError>
         ensures { IfOk result (λ m. (vec_len m.words ≡ 13671) × (vec_len m.coords ≡ 105280) × (vec_len m.fold ≡ 3556) × (vec_len m.set ≡ 3556)) }
     {
+        Memory::with_room(alloc, FILE_BYTES)
+    }
+
+    // The same with so much room for a file.
+    pub fn with_room(alloc: Global, room: usize) -> Result<Memory, AllocError>
+        ensures { IfOk result (λ m. (vec_len m.words ≡ 13671) × (vec_len m.coords ≡ 105280) × (vec_len m.fold ≡ 3556) × (vec_len m.set ≡ 3556) × (vec_len m.buffer ≡ room)) }
+    {
         Ok(Memory {
             words: vec![in alloc; 0; MAP_WORDS]?,
             coords: vec![in alloc; 0.0; MAP_COORDS]?,
@@ -89,7 +96,7 @@ impl Memory {
                 deleted: 0,
             },
             set: vec![in alloc; 0; SET_WORDS]?,
-            buffer: vec![in alloc; 0; FILE_BYTES]?,
+            buffer: vec![in alloc; 0; room]?,
         })
     }
 
