@@ -1,7 +1,7 @@
 // Row edits. They cannot refuse: who calls them has asked for room and number before.
 ghost use Rattle.std.specs.Prelude.{◌≡◌, ◌+◌, ◌-◌, ◌/◌, ◌^◌, ◌≤◌, ◌<◌, max, length, get_or};
 ghost use Rattle.store.specs.Layout.{SizedWords, Sized, count_of, next_of, row_of};
-ghost use Rattle.map.specs.Updates.{LinePushed, SignalPushed, RulePushed, rule_words, body_of_new, RulePut, with_list, with_rule_line, RuleDropped};
+ghost use Rattle.map.specs.Updates.{LinePushed, SignalPushed, RulePushed, rule_words, body_of_new, new_body, RulePut, with_list, with_rule_line, RuleDropped};
 
 use crate::NewRule;
 use store::Kind;
@@ -59,25 +59,42 @@ fn rule_words(rule: NewRule) -> [u64; 4]
     }
 }
 
-// A new rule of these lanes and signals.
-pub fn push_rule(words: &mut [u64], rule: NewRule, lanes: &[u64], signals: &[u64])
-    requires { SizedWords words.old × (count_of words.old 5 < 128) × (next_of words.old < 2 ^ 64 - 1) × (length lanes.now ≤ 16) × (length signals.now ≤ 16) }
-    ensures { RulePushed words.old (body_of_new rule signals.now) lanes.now words.new }
+// A new rule of these lanes and signals, told by the words of its row: its kind's number (1 a light, 2 a sign, 3 a marking), a sign's
+// type, whether there is a line, and the line.
+pub fn push_rule_words(
+    words: &mut [u64],
+    kind: u64,
+    value: u64,
+    flag: u64,
+    line: u64,
+    lanes: &[u64],
+    signals: &[u64],
+)
+    requires { SizedWords words.old × (count_of words.old 5 < 128) × (next_of words.old < 2 ^ 64 - 1) × (kind ≤ 3) × (0 < kind) × (length lanes.now ≤ 16) × (length signals.now ≤ 16) }
+    ensures { RulePushed words.old (new_body kind value flag line signals.now) lanes.now words.new }
 {
     let number = fresh(words);
-    let told = rule_words(rule);
     let mut row = [0u64; 92];
     row[0] = number;
-    row[1] = told[0];
-    row[2] = told[1];
-    row[3] = told[2];
-    row[4] = told[3];
+    row[1] = kind;
+    row[2] = value;
+    row[3] = flag;
+    row[4] = line;
     row[7] = lanes.len() as u64;
     row[41] = signals.len() as u64;
     rows::put(&mut row, 8, lanes);
     rows::put(&mut row, 42, signals);
     store::push_row(words, Kind::Rule, &row);
     store::set_next(words, number + 1);
+}
+
+// The same of a rule by its enum.
+pub fn push_rule(words: &mut [u64], rule: NewRule, lanes: &[u64], signals: &[u64])
+    requires { SizedWords words.old × (count_of words.old 5 < 128) × (next_of words.old < 2 ^ 64 - 1) × (length lanes.now ≤ 16) × (length signals.now ≤ 16) }
+    ensures { RulePushed words.old (body_of_new rule signals.now) lanes.now words.new }
+{
+    let told = rule_words(rule);
+    push_rule_words(words, told[0], told[1], told[2], told[3], lanes, signals);
 }
 
 // The list at word o of rule i written over.
