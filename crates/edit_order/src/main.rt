@@ -8,8 +8,11 @@
 // are lent. And files: `read` (a map file), `set` (a set file), `write` and `give` (the map's file and the fold's, into that many bytes).
 #![tactic(auto)]
 
+ghost use Rattle.std.specs.Prelude.{◌≤◌, length};
+
 use call_list::Reply;
 use changes::Tally;
+use printing::Output;
 use refusal::Refusal;
 use request_calls::{Call, Lent, Memory, Stored, Told, refused_as, reply, reply_in};
 use sample_text::{bytes, double_at, number_at, word_at};
@@ -18,6 +21,9 @@ use std::io;
 // The answer that stands for memory which a refusal altered. An answer is a number here, as in the lists of calls that C lends and in the
 // stored samples that it is compared with.
 const ALTERED: u64 = 16;
+
+// Room for a file.
+const FILE_BYTES: usize = 65536;
 
 // What is spoilt in the present case.
 #[derive(Clone, Copy)]
@@ -33,6 +39,13 @@ struct Case {
 const WHOLE: Case = Case {
     short: 0,
     word: None,
+    list: None,
+};
+
+// Before the first case, a word of 0 in each row: it is no call.
+const NO_CASE: Case = Case {
+    short: 0,
+    word: Some((0, 0)),
     list: None,
 };
 
@@ -66,17 +79,23 @@ fn put<T: Drop>(table: &mut [T], i: u64, value: T) {
 }
 
 // What is lent of a table: all, or one less.
-fn shorter<T>(table: &mut [T], is_short: bool) -> &mut [T] {
+fn shorter<T>(table: &mut [T], is_short: bool) -> &mut [T]
+    ensures { length result.now ≤ length table.old }
+{
     let n = table.len().saturating_sub(is_short as usize);
     &mut table[..n]
 }
 
 // As much of a table as is asked for.
-fn first<T>(table: &[T], n: u64) -> &[T] {
+fn first<T>(table: &[T], n: u64) -> &[T]
+    ensures { (length result.now ≤ length table.now) × (length result.now ≤ n) }
+{
     table.get(..n as usize).unwrap_or(table)
 }
 
-fn first_mut<T>(table: &mut [T], n: u64) -> &mut [T] {
+fn first_mut<T>(table: &mut [T], n: u64) -> &mut [T]
+    ensures { (length result.now ≤ length table.old) × (length result.now ≤ n) }
+{
     let n = table.len().min(n as usize);
     &mut table[..n]
 }
@@ -270,8 +289,12 @@ impl Run {
     }
 }
 
+// The first line without its last byte: the line's end, or where there is none, the last letter.
 fn first_line(text: &[u8]) -> &[u8] {
-    text.split(|b| *b == b'\n').next().unwrap_or(text)
+    match text.split_inclusive(|b| *b == b'\n').next() {
+        Some([line @ .., _]) => line,
+        _ => text,
+    }
 }
 
 // Whether an answer is the one that is stored at a place.
@@ -289,21 +312,22 @@ fn is_met(answers: &[u8], at: usize, r: Reply) -> bool {
 }
 
 fn main(rt: HostRuntime) -> io::Result<()> {
+    let out = Output(&rt);
     let path = std::env::args(&rt)?
         .nth(1)
         .unwrap_or(String::new(rt.alloc()));
     let text = std::fs::read(&rt, path)?;
     let mut run = Run {
-        memory: Memory::new(rt.alloc())?,
-        case: WHOLE,
+        memory: Memory::with_room(rt.alloc(), FILE_BYTES)?,
+        case: NO_CASE,
         met: 0,
         missed: 0,
     };
     let mut rest = text.as_slice();
     for line in text.split_inclusive(|b| *b == b'\n') {
         let after = behind(rest, line.len());
-        run.line(&rt, rest, after)?;
+        run.line(&out, rest, after)?;
         rest = after;
     }
-    println!(rt; "met {}\nmissed {}", run.met, run.missed)
+    println!(out; "met {}\nmissed {}", run.met, run.missed)
 }
