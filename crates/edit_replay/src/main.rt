@@ -5,48 +5,58 @@
 #![tactic(auto)]
 
 mod counts;
+mod windows;
 
 use call_list::Reply;
 use changes::Tally;
 use counts::Counts;
+use printing::Output;
 use request_calls::{Memory, Stored, refused_as};
 use sample_text::bytes::bits_of;
 use sample_text::{hex_at, word_at};
 use std::alloc::{AllocError, Global};
+use std::fs::File;
 use std::io;
 use std::num::f64_from_bits_with_nan;
+use windows::Windows;
 
-// A request, from behind `>` of the examples on to the text's end; the text from the next line on, and in it the place of the answer.
+// Enough lines of a file for the sample, and more. None is longer than a window, so that no file is read past its first gibibyte.
+const MOST_LINES: u64 = 16384;
+
+// Room for a map's or a set's file.
+const FILE_BYTES: usize = 65536;
+
+// A request, from behind `>` of the examples on to the text's end; the text, and in it the place of the answer.
 #[derive(Clone, Copy)]
 struct Exchange<'a> {
     request: &'a [u8],
-    answers: &'a [u8],
+    text: &'a [u8],
     at: usize,
 }
 
 impl<'a> Exchange<'a> {
-    // A line with the one after it.
-    fn new(line: &'a [u8], answers: &'a [u8]) -> Exchange<'a> {
-        let word = word_at(line, 0);
+    // The text's first line with the one after it, which starts at `next`.
+    fn new(text: &'a [u8], next: usize) -> Exchange<'a> {
+        let word = word_at(text, 0);
         let from = match word.value {
             b">" => word.next,
             _ => 0,
         };
         Exchange {
-            request: line.get(from..).unwrap_or(&[]),
-            answers,
-            at: word_at(answers, 0).next,
+            request: text.get(from..).unwrap_or(&[]),
+            text,
+            at: word_at(text, next).next,
         }
     }
 
     fn is_ok(&self) -> bool {
-        matches!(word_at(self.answers, self.at).value, b"ok")
+        matches!(word_at(self.text, self.at).value, b"ok")
     }
 
     // What stands behind the answer's sign.
     fn stored(&self) -> Stored<'a> {
         Stored {
-            text: self.answers,
+            text: self.text,
             at: self.at,
         }
     }
@@ -54,12 +64,12 @@ impl<'a> Exchange<'a> {
     // What was asked for: in the examples it stands behind `ok`.
     fn told(&self) -> Stored<'a> {
         let at = if self.is_ok() {
-            word_at(self.answers, self.at).next
+            word_at(self.text, self.at).next
         } else {
             self.at
         };
         Stored {
-            text: self.answers,
+            text: self.text,
             at,
         }
     }
@@ -69,9 +79,8 @@ impl<'a> Exchange<'a> {
 fn root_as(exchange: Exchange<'_>, at: usize) -> bool {
     let told = exchange.told();
     let stored = hex_at(told.text, told.at);
-    let (Some(x), Some(y)) = (hex_at(exchange.request, at).value, stored.value) else {
-        return false;
-    };
+    let x = hex_at(exchange.request, at).value;
+    let y = stored.value;
     let rest = Stored {
         text: told.text,
         at: stored.next,
@@ -103,7 +112,7 @@ impl Replay {
             let is_altered = self.memory.checksum() != before;
             self.counts.add_refusal(r)?;
             self.counts.add_altered(is_altered);
-            let is_met = !is_altered && refused_as(exchange.answers, exchange.at, r);
+            let is_met = !is_altered && refused_as(exchange.text, exchange.at, r);
             self.counts.add_answer(is_met);
             return Ok(());
         }
@@ -111,7 +120,7 @@ impl Replay {
         self.counts.add_ends(r.ends.is_some());
         let is_met = self
             .memory
-            .done_as(exchange.request, exchange.answers, exchange.at, r);
+            .done_as(exchange.request, exchange.text, exchange.at, r);
         self.counts.add_answer(is_met);
         Ok(())
     }
@@ -123,7 +132,7 @@ impl Replay {
             self.counts.add_run();
             exchange.is_ok()
         } else {
-            refused_as(exchange.answers, exchange.at, r)
+            refused_as(exchange.text, exchange.at, r)
         };
         self.counts.add_answer(is_met);
     }
@@ -163,27 +172,32 @@ impl Replay {
     }
 }
 
-// The lines of a file.
-fn play(alloc: Global, text: &[u8]) -> Result<Counts, AllocError> {
+// The lines of a file, each in the window that begins with it.
+fn play(alloc: Global, file: &File) -> io::Result<Counts> {
     let mut replay = Replay {
-        memory: Memory::new(alloc)?,
+        memory: Memory::with_room(alloc, FILE_BYTES)?,
         counts: Counts::new(alloc),
     };
-    let mut rest = text;
-    for line in text.split_inclusive(|b| *b == b'\n') {
-        let next = rest.get(line.len()..).unwrap_or(&[]);
-        replay.line(Exchange::new(rest, next))?;
-        rest = next;
+    let mut windows = Windows::new(alloc, file)?;
+    for _ in 0..MOST_LINES {
+        let text = windows.window()?;
+        let Some(line) = text.split_inclusive(|b| *b == b'\n').next() else {
+            break;
+        };
+        let next = line.len();
+        replay.line(Exchange::new(text, next))?;
+        windows.pass(next);
     }
     let Replay { counts, .. } = replay;
     Ok(counts)
 }
 
 fn main(rt: HostRuntime) -> io::Result<()> {
+    let out = Output(&rt);
     for path in std::env::args(&rt)?.skip(1) {
-        let text = std::fs::read(&rt, path.as_str())?;
-        println!(rt; "{path}")?;
-        print!(rt; "{}", play(rt.alloc(), &text)?)?;
+        let file = File::open(&rt, path.as_str())?;
+        println!(out; "{path}")?;
+        print!(out; "{}", play(rt.alloc(), &file)?)?;
     }
     Ok(())
 }
