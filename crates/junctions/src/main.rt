@@ -14,7 +14,7 @@ use printing::answers::{Answer, End, Refusal, Side};
 use printing::map::Map;
 use printing::requests::Request;
 use printing::sets::{ChangeSet, Tally};
-use printing::{Entry, Kind};
+use printing::{Entry, Kind, Output};
 use request_calls::{Call, reply};
 use state::{Due, State};
 use std::alloc::Global;
@@ -253,25 +253,25 @@ fn read(alloc: Global, file: impl Read + Drop) -> io::Result<Vec<u8>> {
     }
 }
 
-fn run(rt: &(impl Files + Print + AllocGlobal), path: &str) -> io::Result<u64> {
+fn run(rt: &(impl Files + AllocGlobal), out: &impl Print, path: &str) -> io::Result<u64> {
     if path.is_empty() {
-        println!(rt; "name the file that is to be carried out: junctions FILE")?;
+        println!(out; "name the file that is to be carried out: junctions FILE")?;
         return Ok(1);
     }
     let file = match File::open(rt, path) {
         Ok(file) => file,
         Err(why) if why.kind() == ErrorKind::NotFound => {
-            return no_text(rt, path, "there is no such file");
+            return no_text(out, path, "there is no such file");
         }
-        Err(_) => return no_text(rt, path, "the file cannot be opened"),
+        Err(_) => return no_text(out, path, "the file cannot be opened"),
     };
     let mut text = read(rt.alloc(), file)?;
     if text.is_empty() {
-        return no_text(rt, path, "the file is empty, or cannot be read");
+        return no_text(out, path, "the file is empty, or cannot be read");
     }
     if text.len() > MOST {
         return no_text(
-            rt,
+            out,
             path,
             "the file is longer than 262144 bytes, and nothing of it is carried out",
         );
@@ -279,15 +279,16 @@ fn run(rt: &(impl Files + Print + AllocGlobal), path: &str) -> io::Result<u64> {
     if !text.ends_with(b"\n") {
         text.push(b'\n')?;
     }
-    play(rt, rt.alloc(), &text)
+    play(out, rt.alloc(), &text)
 }
 
 fn main(rt: HostRuntime) -> io::Result<()> {
+    let out = Output(&rt);
     let path = std::env::args(&rt)?
         .nth(1)
         .unwrap_or(String::new(rt.alloc()));
-    match run(&rt, path.as_str())? {
-        0 => println!(rt; "ok"),
-        wrong => println!(rt; "NOT AS EXPECTED: {wrong}"),
+    match run(&rt, &out, path.as_str())? {
+        0 => println!(out; "ok"),
+        wrong => println!(out; "NOT AS EXPECTED: {wrong}"),
     }
 }
