@@ -1,15 +1,20 @@
 -- Coordinates, points and polylines, read into a row.
-use Prim.Native.Nat.{ℕ, ◌+◌, ◌*◌, ◌≤◌, ◌<◌}
+use Prim.Native.Nat.{ℕ, ◌+◌, ◌*◌, ◌^◌, ◌≤◌, ◌<◌}
 use mathlib.Core.Path.{◌≡◌, refl, sym, ◌∙◌}
 use mathlib.Core.Logic.{inl}
-use mathlib.Core.Bool.{true, false, not, ◌&&◌}
+use mathlib.Core.Bool.{Bool, true, false, not, ◌&&◌}
 use mathlib.Core.List.{List, []}
 use native.Mathlib.Omega.{arith}
+use lib.Dec.{eqb}
 use lib.ListN.{length, get_or, drop, set}
 use lib.Seq.{get_or-set_same}
-use lib.Ieee.{Float, nan, inf, fin, binary64, of_bits, is_nan, fits, le}
-use Rattle.std.specs.Float.{float_is_finite, float_with_sign}
+use lib.Ieee.{Float, nan, inf, fin, binary64, of_bits, is_nan, fits, le, lt, eq, neg, up, down}
+use lib.IntN.{ℤ}
+use lib.Ieee.Fits.{down_pos}
+use borrow.Author.Tests.{lt-ltb, eq-eqb, ne_eqb, eqb-true, eqb-false}
+use Rattle.std.specs.Float.{float_is_finite}
 use Rattle.codec.specs.Format.{Bytes, fault, got, only, ◌⊗◌, both, no_true}
+use Rattle.codec.specs.Number.{split}
 use Rattle.codec.specs.Double.{double}
 use Rattle.codec.specs.Answers.{DoubleRead}
 use Rattle.geometry.specs.Double.{on_map, is_finite, absolute, farthest}
@@ -19,14 +24,31 @@ use Rattle.fields.specs.Fields.{Place, read_at, got_at, Changed, Word, Cells, ce
 use Rattle.std.specs.Prelude.{Option, Some, None}
 use Rattle.fields.proofs.Places.{unchanged, changed_at, changed_both, place_then, place_via, onto, Listed, listed_starts, listed-all, listed_more, listed_ends}
 
--- ---- on the map: a double of at most that size
+-- ---- on the map: a double between the two ends
 
--- of a double that is no NaN its size tells
-span_of : (x : Float) → fits binary64 x && not (is_nan x) ≡ true → on_map x ≡ le (float_with_sign false x) farthest
-unfolding on_map is_finite absolute is_nan le of_bits float_with_sign
+abbrev lowest : Float
+lowest = neg farthest
+
+eqb_sym : (a b : ℕ) → eqb a b ≡ eqb b a
+eqb_sym a b = split (eqb a b) (λ t. t ∙ sym (eq-eqb b a (sym (eqb-true a b t)))) (λ t. t ∙ sym (ne_eqb b a (λ e. eqb-false a b t (sym e))))
+
+and_true : (p : Bool) → p && true ≡ p
+and_true true = refl
+and_true false = refl
+
+fin_span : (s : Bool) (m : ℕ) (e : ℤ) → le (fin false m e) farthest ≡ le lowest (fin s m e) && le (fin s m e) farthest
+unfolding le lt eq neg of_bits
+fin_span false m e = rw (lt-ltb 0 (1 * 2 ^ 26 * down e + m * up e * 1) (omega (arith, down_pos e)))
+fin_span true m e =
+    rw (lt-ltb 0 (m * up e * 1 + 1 * 2 ^ 26 * down e) (omega (arith, down_pos e)), eqb_sym (m * up e * 1) (1 * 2 ^ 26 * down e)) (sym (and_true (le lowest (fin true m e))))
+
+-- a double that is no NaN is on the map where it lies between the ends
+span_of : (x : Float) → fits binary64 x && not (is_nan x) ≡ true → on_map x ≡ le lowest x && le x farthest
+unfolding on_map is_finite absolute is_nan le lt eq neg of_bits
 span_of nan h = absurd (no_true (both (fits binary64 nan) false h).1)
-span_of (inf s) h = refl
-span_of (fin s m e) h = rw (both (fits binary64 (fin s m e)) true h).0
+span_of (inf true) h = refl
+span_of (inf false) h = refl
+span_of (fin s m e) h = rw (both (fits binary64 (fin s m e)) true h).0 (fin_span s m e)
 
 module _ (s : Bytes) (p : Place) (cs : List Float) (c : ℕ) (h : c < length cs) where
   cell_lost : fault ≡ read_at coordinate s p → Cells coordinate 1 cell_at s p cs c None cs
@@ -44,19 +66,27 @@ module _ (s : Bytes) (p : Place) (cs : List Float) (c : ℕ) (h : c < length cs)
       reads : double.read (drop i s) ≡ got x (drop next s)
       reads = rw fa at (sym ea.read)
 
-      on : on_map x ≡ le (float_with_sign false x) farthest
+      on : on_map x ≡ le lowest x && le x farthest
       unfolding double
       on = span_of x (double.back (drop i s) x (drop next s) reads).0
 
-      pub cell_off : le (float_with_sign false x) farthest ≡ false → Cells coordinate 1 cell_at s p cs c None cs
+      pub cell_low : le lowest x ≡ false → Cells coordinate 1 cell_at s p cs c None cs
+      unfolding coordinate only
+      cell_low l = cell_lost (rw (e, reads, on, l))
+
+      pub cell_high : le lowest x ≡ true → le x farthest ≡ false → Cells coordinate 1 cell_at s p cs c None cs
+      unfolding coordinate only
+      cell_high l m = cell_lost (rw (e, reads, on, l, m))
+
+      pub cell_off : le lowest x && le x farthest ≡ false → Cells coordinate 1 cell_at s p cs c None cs
       unfolding coordinate only
       cell_off l = cell_lost (rw (e, reads, on, l))
 
-      pub cell_got : le (float_with_sign false x) farthest ≡ true → Cells coordinate 1 cell_at s p cs c (Some next) (set cs c x)
+      pub cell_got : le lowest x ≡ true → le x farthest ≡ true → Cells coordinate 1 cell_at s p cs c (Some next) (set cs c x)
       unfolding coordinate only
-      cell_got l = record { coords = changed_at cs c x; is = rw (get_or-set_same cs c x nan h, e, reads, on, l) }
+      cell_got l m = record { coords = changed_at cs c x; is = rw (get_or-set_same cs c x nan h, e, reads, on, l, m) }
 
-pub ruleset reading_cell = (cell_none, cell_cut, cell_off, cell_got)
+pub ruleset reading_cell = (cell_none, cell_cut, cell_low, cell_high, cell_off, cell_got)
 
 -- ---- a height: any finite double
 

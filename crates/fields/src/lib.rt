@@ -50,7 +50,7 @@ pub fn read_coordinate(s: &[u8], p: Place, coords: &mut [f64], c: usize) -> Plac
     ensures { Cells coordinate 1 cell_at s.now p coords.old c result coords.new }
 {
     let (x, next) = codec::read_double(s, p?)?;
-    if x.abs() <= 67108864.0 {
+    if -67108864.0 <= x && x <= 67108864.0 {
         coords[c] = x;
         return Some(next);
     }

@@ -269,11 +269,11 @@ module _ (ws : List ℕ) (cs : List Float) (f : List ℕ) (t : Tally) (s : List 
           list_checks_lem (refused m ds) v d = absurd (let y : ◌≡◌ {A = ℕ} 0 1 = cc in omega arith)
           list_checks_lem (done w) v d = d
 
-          lists_passed : Passed (map_of ws cs) a.lanes a.crosswalks a.stop_lines
+          pub lists_passed : Passed (map_of ws cs) a.lanes a.crosswalks a.stop_lines
           unfolding links_checks
           lists_passed = passed (map_of ws cs) a.lanes a.crosswalks a.stop_lines (list_checks_lem (present (rule_of (map_of ws cs) a.rule) 2 (8 ∷ a.rule ∷ [])) _ (sym (hp.answer cs) ∙ ap checked z))
 
-          few : (length a.lanes ≤ 64) × (length a.crosswalks ≤ 32) × (length a.stop_lines ≤ 64)
+          pub few : (length a.lanes ≤ 64) × (length a.crosswalks ≤ 32) × (length a.stop_lines ≤ 64)
           few = lists_few ws cs (known is_fine).sound a.lanes a.crosswalks a.stop_lines lists_passed
 
           pub each_sorts : Sorts a.lanes × Sorts a.crosswalks × Sorts a.stop_lines

@@ -1,6 +1,6 @@
-use borrow.Author.Rules.{rules}
+use Rattle.std.proofs.Common.{rules}
 use Rattle.fields.proofs.Points as L
 use Rattle.fields.proofs.read_coordinate.Goals as goal
 
-pub returns-then-abs : goal.returns-then-abs
-returns-then-abs c = search (rules, L.reading_cell)
+pub returns-then-x-2 : goal.returns-then-x-2
+returns-then-x-2 c = search (rules, L.reading_cell)
