@@ -54,7 +54,7 @@ pub fn word_at(text: &[u8], at: usize) -> Word<&[u8]>
 }
 
 // Every byte counts as a digit, so that each word is some number: the replays compare what it says, and refuse none.
-pub(crate) fn digit(b: u8) -> u64 {
+pub fn digit(b: u8) -> u64 {
     let d = u64::from(b);
     if d < 58 { d % 16 } else { d % 16 + 9 }
 }
