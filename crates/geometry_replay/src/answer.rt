@@ -1,7 +1,7 @@
 // What a stored answer says, word for word.
 use centerline::{Line, Stations};
 use geometry::{Location, NearestPoint, Point2, Point3};
-use sample_text::{expect, expect_number};
+use sample_text::{expect, expect_number, word_at};
 
 // What a request came to, beside the stored answer.
 #[derive(Clone, Copy)]
@@ -12,16 +12,18 @@ pub enum Outcome {
 }
 
 impl Outcome {
-    // The other one, where this was not asked.
-    pub fn or(self, other: Outcome) -> Outcome {
+    // The other one, where this was not asked: only then it is worked out.
+    pub fn or_else<F: FnOnce() -> Outcome + Drop>(self, other: F) -> Outcome
+        requires { F.IsAlwaysCallable other }
+    {
         match self {
-            Outcome::NotAsked => other,
+            Outcome::NotAsked => other(),
             asked => asked,
         }
     }
 }
 
-// The words of a stored answer from `at` on; 0 once a word was another than it should be.
+// The words of a stored answer from `at` on, and those of the lines after it; 0 once a word was another than it should be.
 #[derive(Drop)]
 pub struct Answer<'a> {
     text: &'a [u8],
@@ -114,9 +116,12 @@ impl Stored for Stations {
     }
 }
 
-// What was worked out, beside a line that holds `= ` and the stored answer.
-pub fn compared<T: Stored + Drop>(found: T, line: &[u8]) -> Outcome {
-    let mut answer = Answer { text: line, at: 2 };
+// What was worked out, beside the stored answer: it stands behind its line's first word.
+pub fn compared<T: Stored + Drop>(found: T, text: &[u8]) -> Outcome {
+    let mut answer = Answer {
+        text,
+        at: word_at(text, 0).next,
+    };
     found.meet(&mut answer);
     if answer.at == 0 {
         Outcome::Missed

@@ -1,4 +1,5 @@
-// Cases on polylines; not asked where the name is none of these, or a polyline has more than 64 points.
+// Cases on polylines; not asked where the name is none of these, or a polyline has more than 64 points. A name is told by its last
+// eight letters.
 use crate::answer::{Outcome, compared};
 use crate::words::{Words, coords_of};
 
@@ -27,8 +28,8 @@ fn along(name: &[u8], mut words: Words<'_>, answer: &[u8]) -> Outcome {
     match name {
         b"locate" => compared(polyline::locate::locate(cs, s), answer),
         b"point_at" => compared(polyline::locate::point_at(cs, s), answer),
-        b"point_at_fraction" => compared(polyline::locate::point_at_fraction(cs, s), answer),
-        b"direction_at" => compared(polyline::direction::direction_at(cs, s), answer),
+        b"fraction" => compared(polyline::locate::point_at_fraction(cs, s), answer),
+        b"ction_at" => compared(polyline::direction::direction_at(cs, s), answer),
         _ => Outcome::NotAsked,
     }
 }
@@ -65,9 +66,11 @@ fn middle(mut words: Words<'_>, answer: &[u8]) -> Outcome {
 
 pub fn case(name: &[u8], words: Words<'_>, answer: &[u8]) -> Outcome {
     match name {
-        b"nearest_point" => nearest(words, answer),
-        b"resample_count" => resampled(words, answer),
-        b"centerline" => middle(words, answer),
-        _ => whole(name, words, answer).or(along(name, words, answer)),
+        b"length" | b"is_valid" | b"stations" | b"reversed" => whole(name, words, answer),
+        b"locate" | b"point_at" | b"fraction" | b"ction_at" => along(name, words, answer),
+        b"st_point" => nearest(words, answer),
+        b"le_count" => resampled(words, answer),
+        b"nterline" => middle(words, answer),
+        _ => Outcome::NotAsked,
     }
 }

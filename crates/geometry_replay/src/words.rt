@@ -1,9 +1,12 @@
-// The words of a request, from a place on: bytes, as `sample_text` reads them.
+// The words of a request, from a place on: bytes, as `sample_text` reads them. A word that its line lacks is the next line's.
 ghost use Rattle.std.specs.Prelude.{◌/◌, ◌≤◌, length};
 ghost use Rattle.std.specs.Option.{IfSome};
 
-use geometry::{Point2, Point3};
+use geometry::Point2;
 use sample_text::{Points, double_at, number_at, points_at, word_at};
+
+// Up to seven numbers of a request. Where it has fewer, the rest is not used.
+pub type Numbers = [f64; 7];
 
 #[derive(Clone, Copy)]
 pub struct Words<'a> {
@@ -16,6 +19,12 @@ impl<'a> Words<'a> {
         let word = word_at(self.text, self.at);
         self.at = word.next;
         word.value
+    }
+
+    // The last eight letters of a name, which tell the functions apart.
+    pub fn name(&mut self) -> &'a [u8] {
+        let word = self.word();
+        &word[word.len().saturating_sub(8)..]
     }
 
     pub fn number(&mut self) -> u64 {
@@ -36,11 +45,13 @@ impl<'a> Words<'a> {
         Point2 { x, y }
     }
 
-    pub fn space(&mut self) -> Point3 {
-        let x = self.double();
-        let y = self.double();
-        let z = self.double();
-        Point3 { x, y, z }
+    // The next seven words as numbers, whether the request has so many or not.
+    pub fn numbers(mut self) -> Numbers {
+        let mut numbers = [0.0; 7];
+        for x in numbers.iter_mut() {
+            *x = self.double();
+        }
+        numbers
     }
 
     pub fn points(&mut self) -> Points {
