@@ -3,9 +3,9 @@
 #![tactic(auto)]
 
 use changes::{SetList, layout};
+use printing::Output;
 use refusal::Refusal;
 use sample_text::{number_at, word_at};
-use std::fmt::Write;
 use std::io;
 
 // The lists of a change set.
@@ -63,20 +63,18 @@ fn read_warnings(t: &mut Table, numbers: &mut Numbers) {
     }
 }
 
-// The table of a set file that stands as a word of a line.
-fn read_set(line: &[u8], at: usize) -> Table {
+// The set file that stands as a word of the text, into an empty table.
+fn read_set(t: &mut Table, text: &[u8], at: usize) {
     let mut file: Bytes = [0; 4096];
-    let n = sample_text::bytes::bytes_at(line, at, &mut file);
+    let n = sample_text::bytes::bytes_at(text, at, &mut file);
     let mut numbers = Numbers {
         file: &file[..n],
         at: 0,
     };
-    let mut t: Table = [0; layout::WORDS];
     for l in LISTS {
-        read_list(&mut t, l, &mut numbers);
+        read_list(t, l, &mut numbers);
     }
-    read_warnings(&mut t, &mut numbers);
-    t
+    read_warnings(t, &mut numbers);
 }
 
 // The words of a list; none where it counts more entries than it has room for.
@@ -112,19 +110,29 @@ struct Replay {
 }
 
 impl Replay {
-    // What the stored answer says of the fold's: `done` and the fold, or `refused` and the refusal's number.
+    // Whether a stored answer is the fold.
+    fn is_fold(&self, text: &[u8], at: usize) -> bool {
+        let mut set: Table = [0; layout::WORDS];
+        read_set(&mut set, text, at);
+        same(&set, &self.fold)
+    }
+
+    // What the stored answer says of the fold's, behind its line's first word: `done` and the fold, or `refused` and the
+    // refusal's number.
     fn is_met(&self, answer: &[u8], folded: Result<(), Refusal>) -> bool {
-        let stored = word_at(answer, 0);
+        let stored = word_at(answer, word_at(answer, 0).next);
         match (stored.value, folded) {
-            (b"done", Ok(())) => same(&read_set(answer, stored.next), &self.fold),
+            (b"done", Ok(())) => self.is_fold(answer, stored.next),
             (b"refused", Err(why)) => number_at(answer, stored.next).value == why.number(),
             _ => false,
         }
     }
 
-    // A set is taken into the fold.
-    fn join(&mut self, set: &Table, answer: &[u8]) {
-        let folded = sets::fold(&mut self.fold, set);
+    // The set file that stands as a word of the text is taken into the fold.
+    fn join(&mut self, text: &[u8], at: usize, answer: &[u8]) {
+        let mut set: Table = [0; layout::WORDS];
+        read_set(&mut set, text, at);
+        let folded = sets::fold(&mut self.fold, &set);
         if folded.is_err() {
             self.refused = self.refused.saturating_add(1);
         }
@@ -136,45 +144,44 @@ impl Replay {
     }
 
     // The fold is at its end: its counts are written, and it is empty again.
-    fn finish<W: Write>(&mut self, report: &mut W) -> io::Result<()> {
+    fn finish(&mut self, out: &impl Print) -> io::Result<()> {
         let [created, modified, deleted, ..] = self.fold;
-        writeln!(report, "{created} {modified} {deleted}")?;
+        println!(out; "{created} {modified} {deleted}")?;
         self.fold[0] = 0;
         self.fold[1] = 0;
         self.fold[2] = 0;
         Ok(())
     }
+
+    // Each line, handed on with all that follows it: a word that a line lacks is the next one's.
+    fn lines(&mut self, out: &impl Print, text: &[u8]) -> io::Result<()> {
+        let mut request = text;
+        for line in text.split_inclusive(|b| *b == b'\n') {
+            let answer = request.get(line.len()..).unwrap_or(&[]);
+            let first = word_at(request, 0);
+            match first.value {
+                b"sets" if self.met != 0 => self.finish(out)?,
+                b"join" => self.join(request, first.next, answer),
+                _ => {}
+            }
+            request = answer;
+        }
+        self.finish(out)
+    }
 }
 
 fn main(rt: HostRuntime) -> io::Result<()> {
+    let out = Output(&rt);
     let path = std::env::args(&rt)?.nth(1);
     let text = std::fs::read(&rt, path.unwrap_or(String::new(rt.alloc())))?;
-    let mut report = String::new(rt.alloc());
     let mut replay = Replay {
         fold: [0; layout::WORDS],
         met: 0,
         missed: 0,
         refused: 0,
     };
-    // the set that is to be joined, until its answer is read
-    let mut joined = None;
-    for line in text.split(|b| *b == b'\n') {
-        let first = word_at(line, 0);
-        let rest = line.get(first.next..).unwrap_or(&[]);
-        match first.value {
-            b"sets" if replay.met != 0 => replay.finish(&mut report)?,
-            b"join" => joined = Some(read_set(rest, 0)),
-            b"=" => {
-                if let Some(set) = joined.take() {
-                    replay.join(&set, rest);
-                }
-            }
-            _ => {}
-        }
-    }
-    replay.finish(&mut report)?;
-    writeln!(report, "met {}", replay.met)?;
-    writeln!(report, "missed {}", replay.missed)?;
-    writeln!(report, "refused {}", replay.refused)?;
-    rt.print(report)
+    replay.lines(&out, &text)?;
+    println!(out; "met {}", replay.met)?;
+    println!(out; "missed {}", replay.missed)?;
+    println!(out; "refused {}", replay.refused)
 }
