@@ -3,9 +3,18 @@
 // version 2.36); for a NaN the root's pattern is that of document 01.
 #![tactic(auto)]
 
-use std::fmt::Write;
+ghost use Rattle.std.specs.Prelude.{◌<◌, ◌≤◌, length};
+
+use printing::Output;
 use std::io;
+use std::io::Read;
 use std::num::{FpCategory, f64_from_bits_with_nan};
+
+// No more of the input is read.
+const ROOM: usize = 65536;
+
+// A vector is a line of so many bytes: two patterns, and a byte behind each.
+const LINE: usize = 34;
 
 // The classes of operands, in the order of their names.
 #[derive(Clone, Copy)]
@@ -40,37 +49,57 @@ fn class_of(x: f64) -> Class {
     }
 }
 
-// The two patterns of a line.
-fn vector_of(line: &str) -> Option<(u64, u64)> {
-    let (operand, root) = line.split_once(' ')?;
-    let operand = u64::from_str_radix(operand, 16).ok()?;
-    let root = u64::from_str_radix(root, 16).ok()?;
-    Some((operand, root))
+// The value of a hexadecimal digit, 0 where it is none.
+fn digit(b: u8) -> u64
+    ensures { result < 16 }
+{
+    match b {
+        b'0'..=b'9' => u64::from(b - b'0'),
+        b'a'..=b'f' => u64::from(b - b'a') + 10,
+        _ => 0,
+    }
+}
+
+// The number in 16 digits.
+fn pattern(digits: &[u8]) -> u64 {
+    digits.iter().fold(0, |n, b| (n << 4) | digit(*b))
+}
+
+// The bytes of the input, as far as there is room for them: how many. What cannot be read is its end.
+fn read_full<R: Read>(input: &mut R, buffer: &mut [u8]) -> usize
+    ensures { result ≤ length buffer.old }
+{
+    let mut done = 0;
+    while done < buffer.len() {
+        match input.read(&mut buffer[done..]) {
+            Ok(n) if n > 0 => done += n,
+            _ => break,
+        }
+    }
+    done
 }
 
 fn add_one(count: &mut u64) {
     *count = count.saturating_add(1);
 }
 
-// A line that is no vector counts as one that differs.
 fn main(rt: HostRuntime) -> io::Result<()> {
+    let out = Output(&rt);
+    let mut buffer = [0; ROOM];
+    let got = read_full(&mut rt.stdin(), &mut buffer);
     let mut counts = [0; 6];
     let mut differ = 0;
-    for line in rt.lines(rt.alloc()) {
-        let Some((operand, root)) = vector_of(line?.as_str()) else {
-            add_one(&mut differ);
-            continue;
-        };
+    let (lines, _) = buffer[..got].as_chunks::<LINE>();
+    for line in lines {
+        let operand = pattern(&line[..16]);
         let class = class_of(f64_from_bits_with_nan(operand));
         add_one(&mut counts[class as usize]);
-        if root::square_root_bits(operand) != root {
+        if root::square_root_bits(operand) != pattern(&line[17..33]) {
             add_one(&mut differ);
         }
     }
-    let mut report = String::new(rt.alloc());
     for (count, name) in counts.iter().zip(NAMES) {
-        writeln!(report, "{count} {name}")?;
+        println!(out; "{count} {name}")?;
     }
-    writeln!(report, "{differ} differ")?;
-    rt.print(report)
+    println!(out; "{differ} differ")
 }
