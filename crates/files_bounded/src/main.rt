@@ -4,18 +4,20 @@
 #![tactic(auto)]
 
 use file_trials::Trials;
+use printing::Output;
 use std::io;
 
 fn main(rt: HostRuntime) -> io::Result<()> {
+    let out = Output(&rt);
     let mut maps = Trials::of_maps(rt.alloc())?;
     let count = file_ceilings::maps(&mut maps);
-    println!(rt; "maps at a ceiling and past it: {count}")?;
+    println!(out; "maps at a ceiling and past it: {count}")?;
     let count = file_ceilings::points_in_all(&mut maps);
-    println!(rt; "maps of 1,024 points and more: {count}")?;
+    println!(out; "maps of 1,024 points and more: {count}")?;
     let count = file_edges::worked(&mut maps);
-    println!(rt; "coordinates at an edge and past it: {count}")?;
+    println!(out; "coordinates at an edge and past it: {count}")?;
     let count = file_edges::signal(&mut maps);
-    println!(rt; "heights and bulbs at an edge and past it: {count}")?;
+    println!(out; "heights and bulbs at an edge and past it: {count}")?;
     let count = file_ceilings::sets(&mut Trials::of_sets(rt.alloc())?);
-    println!(rt; "sets at a ceiling and past it: {count}")
+    println!(out; "sets at a ceiling and past it: {count}")
 }

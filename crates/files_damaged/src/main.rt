@@ -5,6 +5,7 @@
 
 use file_damages::{Damage, damaged};
 use file_trials::{ROOM, Trials};
+use printing::Output;
 use std::io;
 
 // The files that are made, by their numbers.
@@ -35,7 +36,8 @@ fn damage_files(
 }
 
 fn main(rt: HostRuntime) -> io::Result<()> {
+    let out = Output(&rt);
     let mut room = vec![in rt.alloc(); 0; ROOM]?;
-    damage_files(&rt, &MAPS, &mut room, &mut Trials::of_maps(rt.alloc())?)?;
-    damage_files(&rt, &SETS, &mut room, &mut Trials::of_sets(rt.alloc())?)
+    damage_files(&out, &MAPS, &mut room, &mut Trials::of_maps(rt.alloc())?)?;
+    damage_files(&out, &SETS, &mut room, &mut Trials::of_sets(rt.alloc())?)
 }

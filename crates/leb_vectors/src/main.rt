@@ -2,6 +2,7 @@
 // are no number. Each number is written and read back, each form read; what comes out is held to the file stdout.
 #![tactic(auto)]
 
+use printing::Output;
 use std::{fmt, io};
 
 const NUMBERS: [u64; 27] = [
@@ -70,19 +71,20 @@ fn show(rt: &impl Print, s: &[u8]) -> io::Result<()> {
 }
 
 fn main(rt: HostRuntime) -> io::Result<()> {
+    let out = Output(&rt);
     for n in NUMBERS {
-        written(&rt, n)?;
+        written(&out, n)?;
     }
-    show(&rt, b"")?;
-    show(&rt, b"\x80")?;
-    show(&rt, b"\x80\x00")?;
-    show(&rt, b"\x81\x80\x00")?;
-    show(&rt, b"\xff\xff\xff\xff\xff\xff\xff\xff\xff\x02")?;
-    show(&rt, b"\xff\xff\xff\xff\xff\xff\xff\xff\xff\x81\x00")?;
-    show(&rt, b"\xff\xff\xff\xff\xff\xff\xff\xff\xff\xff")?;
-    show(&rt, b"\x80\x80\x80\x80\x80\x80\x80\x80\x80\x01")?;
-    show(&rt, b"\x7f\x09")?;
-    show(&rt, b"\x05")?;
-    show(&rt, b"\x80\x80\x80\x80\x80\x80\x80\x80\x80\x00")?;
-    show(&rt, b"\x80\x80\x80\x80\x80\x80\x80\x80\x80\x80\x01")
+    show(&out, b"")?;
+    show(&out, b"\x80")?;
+    show(&out, b"\x80\x00")?;
+    show(&out, b"\x81\x80\x00")?;
+    show(&out, b"\xff\xff\xff\xff\xff\xff\xff\xff\xff\x02")?;
+    show(&out, b"\xff\xff\xff\xff\xff\xff\xff\xff\xff\x81\x00")?;
+    show(&out, b"\xff\xff\xff\xff\xff\xff\xff\xff\xff\xff")?;
+    show(&out, b"\x80\x80\x80\x80\x80\x80\x80\x80\x80\x01")?;
+    show(&out, b"\x7f\x09")?;
+    show(&out, b"\x05")?;
+    show(&out, b"\x80\x80\x80\x80\x80\x80\x80\x80\x80\x00")?;
+    show(&out, b"\x80\x80\x80\x80\x80\x80\x80\x80\x80\x80\x01")
 }

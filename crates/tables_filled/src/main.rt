@@ -5,6 +5,7 @@ ghost use Rattle.std.specs.Prelude.{◌≡◌, ◌-◌, ◌^◌, ◌<◌, ◌≤
 ghost use Rattle.store.specs.Kinds.{kind_number};
 ghost use Rattle.store.specs.Layout.{Sized, count_of, next_of, limit_of, width_of, coord_width_of};
 
+use printing::Output;
 use std::io;
 use store::Kind;
 
@@ -289,13 +290,14 @@ fn edit_all(rt: &impl Print, words: &mut [u64], coords: &mut [f64]) -> io::Resul
 }
 
 fn main(rt: HostRuntime) -> io::Result<()> {
+    let out = Output(&rt);
     let mut words = vec![in rt.alloc(); 0u64; 13671]?;
     let mut coords = vec![in rt.alloc(); 0.0f64; 105280]?;
     put(&mut words, 0, 1);
-    report(&rt, &words, &coords)?;
-    fill_all(&rt, &mut words, &mut coords, &[7; 16])?;
-    report(&rt, &words, &coords)?;
-    print_words(&rt, &words, &LISTS)?;
-    edit_all(&rt, &mut words, &mut coords)?;
-    report(&rt, &words, &coords)
+    report(&out, &words, &coords)?;
+    fill_all(&out, &mut words, &mut coords, &[7; 16])?;
+    report(&out, &words, &coords)?;
+    print_words(&out, &words, &LISTS)?;
+    edit_all(&out, &mut words, &mut coords)?;
+    report(&out, &words, &coords)
 }
