@@ -21,21 +21,24 @@ pub fn low(n: u64) -> u8 {
     (n % 256) as u8
 }
 
-// The bytes of s from a up to e.
+// The bytes of s from a up to e; zeros past its end.
 pub fn part(out: &mut [u8], at: usize, s: &[u8], a: usize, e: usize) -> usize {
-    let mut next = at;
-    for i in a..e {
-        next = put(out, next, get(s, i));
+    let end = e.min(s.len());
+    let mut next = bytes(out, at, s.get(a..end).unwrap_or(&[]));
+    for _ in a.max(end)..e {
+        next = put(out, next, 0);
     }
     next
 }
 
+// Bytes copied, as many as there is room for: whole files too.
 pub fn bytes(out: &mut [u8], at: usize, s: &[u8]) -> usize {
-    let mut next = at;
-    for b in s {
-        next = put(out, next, *b);
-    }
-    next
+    let Some(room) = out.get_mut(at..) else {
+        return at;
+    };
+    let size = s.len().min(room.len());
+    room[..size].copy_from_slice(&s[..size]);
+    at + size
 }
 
 // A whole number in groups of seven bits.
