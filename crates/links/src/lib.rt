@@ -173,6 +173,10 @@ pub fn set_regulatory_links(
     let a = sorted_of(lanes);
     let b = sorted_of(crosswalks);
     let c = sorted_of(stop_lines);
+    // arrays of their own: with parts of the three structs each list is copied once more
+    let x = a.entries;
+    let y = b.entries;
+    let z = c.entries;
     link_rule(
         words,
         coords,
@@ -180,8 +184,8 @@ pub fn set_regulatory_links(
         tally,
         set,
         rule,
-        &a.entries[..a.count],
-        &b.entries[..b.count],
-        &c.entries[..c.count],
+        &x[..a.count],
+        &y[..b.count],
+        &z[..c.count],
     )
 }
