@@ -6,8 +6,8 @@
    of its elements. A refused call leaves all memory as it was, but the answer that it writes.
 
    Stack: a call works on the stack of its caller's thread and takes no other memory; nothing is kept between calls. Lend it 192 KB.
-   Measured: 172 KB for a light beside a fold with more than 256 entries in a list, 84 KB beside a shorter one; 76 KB for a stop line,
-   64 KB for links, 36 KB and less for files. */
+   Measured: 180 KB for a light beside a fold with more than 256 entries in a list, 100 KB beside a shorter one; 164 and 84 KB for a
+   stop line, 64 KB for links, 36 KB and less for files. */
 #ifndef LANE_MAP_H
 #define LANE_MAP_H
 
