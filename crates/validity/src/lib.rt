@@ -15,14 +15,38 @@ pub fn row_ok(words: &[u64], coords: &[f64], k: Kind, i: usize) -> bool
     requires { Sized words.now coords.now × (i < count_of words.now (kind_number k)) }
     ensures { result ≡ good_row (kind_number k) words.now coords.now i }
 {
-    let at = k.place(i);
-    let o = k.coord_place(i);
+    // the kind of each arm is a constant, and so are the numbers of its layout
     match k {
-        Kind::Lane => row_tests::lane_ok(words, coords, at, o),
-        Kind::Boundary | Kind::StopLine => row_tests::string_ok(words, coords, at, o),
-        Kind::Signal => row_tests::signal_ok(words, coords, at, o),
-        Kind::Crosswalk => row_tests::crosswalk_ok(words, coords, at, o),
-        Kind::Rule => row_tests::rule_ok(words, coords, at, o),
+        Kind::Lane => {
+            let at = Kind::Lane.place(i);
+            let o = Kind::Lane.coord_place(i);
+            row_tests::lane_ok(words, coords, at, o)
+        }
+        Kind::Boundary => {
+            let at = Kind::Boundary.place(i);
+            let o = Kind::Boundary.coord_place(i);
+            row_tests::string_ok(words, coords, at, o)
+        }
+        Kind::StopLine => {
+            let at = Kind::StopLine.place(i);
+            let o = Kind::StopLine.coord_place(i);
+            row_tests::string_ok(words, coords, at, o)
+        }
+        Kind::Signal => {
+            let at = Kind::Signal.place(i);
+            let o = Kind::Signal.coord_place(i);
+            row_tests::signal_ok(words, coords, at, o)
+        }
+        Kind::Crosswalk => {
+            let at = Kind::Crosswalk.place(i);
+            let o = Kind::Crosswalk.coord_place(i);
+            row_tests::crosswalk_ok(words, coords, at, o)
+        }
+        Kind::Rule => {
+            let at = Kind::Rule.place(i);
+            let o = Kind::Rule.coord_place(i);
+            row_tests::rule_ok(words, coords, at, o)
+        }
     }
 }
 
@@ -110,13 +134,31 @@ pub fn row_points(words: &[u64], k: Kind, i: usize) -> u64
     requires { SizedWords words.now × (i < count_of words.now (kind_number k)) × (row_points (kind_number k) words.now i ≤ 192) }
     ensures { result ≡ row_points (kind_number k) words.now i }
 {
-    let at = k.place(i);
     match k {
-        Kind::Lane => points_if(words[at + 6], words[at + 7]),
-        Kind::Boundary | Kind::StopLine => words[at + 1],
-        Kind::Signal => words[at + 2],
-        Kind::Crosswalk => crosswalk_points(words, at),
-        Kind::Rule => sign_points(words[at + 1], words[at + 5], words[at + 6]),
+        Kind::Lane => {
+            let at = Kind::Lane.place(i);
+            points_if(words[at + 6], words[at + 7])
+        }
+        Kind::Boundary => {
+            let at = Kind::Boundary.place(i);
+            words[at + 1]
+        }
+        Kind::StopLine => {
+            let at = Kind::StopLine.place(i);
+            words[at + 1]
+        }
+        Kind::Signal => {
+            let at = Kind::Signal.place(i);
+            words[at + 2]
+        }
+        Kind::Crosswalk => {
+            let at = Kind::Crosswalk.place(i);
+            crosswalk_points(words, at)
+        }
+        Kind::Rule => {
+            let at = Kind::Rule.place(i);
+            sign_points(words[at + 1], words[at + 5], words[at + 6])
+        }
     }
 }
 
