@@ -62,7 +62,8 @@ pub fn put_entry(out: &mut [u64], p: usize, e: Entry)
     out[p + 1] = e.number;
 }
 
-// How a stands to b: as the derived order has it, which takes two of these three answers at once and half as long again.
+// How a stands to b: the derived order, by the kinds first. The derived comparison itself works out both at once, and takes half as long
+// again.
 #[tactic(auto, using(crate::proofs::WalkLaws::comparing))]
 pub fn compare(a: Entry, b: Entry) -> Ordering
     ensures { result ≡ order_of (compare_refs (ref_of a) (ref_of b)) }

@@ -88,7 +88,7 @@ fn rule_stored(words: &mut [u64], l: Light, lanes: &[u64])
     }
     let signals = [l.signal];
     let line = l.has_line.then_some(l.line);
-    update::push_rule(words, NewRule::Light { line }, lanes, &signals);
+    update::push_new_rule(words, NewRule::Light { line }, lanes, &signals);
 }
 
 // All of it.

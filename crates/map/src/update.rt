@@ -61,7 +61,7 @@ fn rule_words(rule: NewRule) -> [u64; 4]
 
 // A new rule of these lanes and signals, told by the words of its row: its kind's number (1 a light, 2 a sign, 3 a marking), a sign's
 // type, whether there is a line, and the line.
-pub fn push_rule_words(
+pub fn push_rule(
     words: &mut [u64],
     kind: u64,
     value: u64,
@@ -89,12 +89,12 @@ pub fn push_rule_words(
 }
 
 // The same of a rule by its enum.
-pub fn push_rule(words: &mut [u64], rule: NewRule, lanes: &[u64], signals: &[u64])
+pub fn push_new_rule(words: &mut [u64], rule: NewRule, lanes: &[u64], signals: &[u64])
     requires { SizedWords words.old × (count_of words.old 5 < 128) × (next_of words.old < 2 ^ 64 - 1) × (length lanes.now ≤ 16) × (length signals.now ≤ 16) }
     ensures { RulePushed words.old (body_of_new rule signals.now) lanes.now words.new }
 {
     let told = rule_words(rule);
-    push_rule_words(words, told[0], told[1], told[2], told[3], lanes, signals);
+    push_rule(words, told[0], told[1], told[2], told[3], lanes, signals);
 }
 
 // The list at word o of rule i written over.

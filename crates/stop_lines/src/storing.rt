@@ -21,11 +21,11 @@ fn add_rule(words: &mut [u64], rule: StopRule, number: u64, lanes: &[u64])
                 value: 1,
                 line: Some(number),
             };
-            update::push_rule(words, sign, lanes, &lanes[..0]);
+            update::push_new_rule(words, sign, lanes, &lanes[..0]);
         }
         StopRule::Marking => {
             let marking = NewRule::Marking { line: number };
-            update::push_rule(words, marking, lanes, &lanes[..0]);
+            update::push_new_rule(words, marking, lanes, &lanes[..0]);
         }
         StopRule::NoRule => {}
     }

@@ -147,7 +147,7 @@ fn add_light(words: &mut [u64], coords: &[f64], line: u64, list: &[u64]) -> bool
         return false;
     }
     let light = map::NewRule::Light { line: Some(line) };
-    map::update::push_rule(words, light, list, list);
+    map::update::push_new_rule(words, light, list, list);
     true
 }
 

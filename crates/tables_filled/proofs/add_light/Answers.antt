@@ -9,5 +9,5 @@ count-requires c = search (rules, G.guards)
 pub next-requires : goal.next-requires
 next-requires c = search (rules, G.guards)
 
-pub push_rule-requires : goal.push_rule-requires
-push_rule-requires c = search (rules, G.guards)
+pub push_new_rule-requires : goal.push_new_rule-requires
+push_new_rule-requires c = search (rules, G.guards)
